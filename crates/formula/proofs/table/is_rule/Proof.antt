@@ -1,0 +1,77 @@
+use borrow.Author.Needs.{needs}
+use Rattle.formula.proofs.Rules.{too-many, past-ops, past-ops-from, past-nums, no-tree, other-end, whole}
+use Rattle.formula.proofs.table.is_rule.Statement.{statement}
+use Rattle.formula.proofs.table.is_rule.Tie as tie
+use Rattle.formula.proofs.table.is_rule.Reads as reads
+use Rattle.formula.proofs.table.is_rule.Lts as lts
+use Rattle.formula.proofs.table.tree_at.Reads as tree-at-reads
+
+-- src/table.rt:50:9
+returns : tie.Need-returns
+returns c = search (needs, too-many)
+
+-- src/table.rt:53:9
+returns-2 : tie.Need-returns-2
+returns-2 c = search (needs, past-ops)
+
+-- src/table.rt:55:8
+sub-if3 : tie.Need-sub-if3
+sub-if3 c = search needs
+
+-- src/table.rt:56:9
+returns-3 : tie.Need-returns-3
+returns-3 c = search (needs, past-ops-from)
+
+-- src/table.rt:58:21
+add-if4 : tie.Need-add-if4
+add-if4 c = search needs
+
+-- src/table.rt:59:9
+returns-4 : tie.Need-returns-4
+returns-4 c = search (needs, past-nums)
+
+-- src/table.rt:61:15
+add-end : tie.Need-add-end
+add-end c = search needs
+
+-- src/table.rt:62:25
+tree-at-requires : tie.Need-tree-at-requires
+tree-at-requires c κs = search needs
+
+-- src/table.rt:62:20
+enum-known-e : tie.Need-enum-known-e
+enum-known-e c = search needs
+
+-- src/table.rt:63:9
+enum-told : tie.Need-enum-told
+enum-told c = search needs
+
+-- src/table.rt:63:9
+returns-5 : tie.Need-returns-5
+returns-5 c = search (needs, no-tree)
+
+-- src/table.rt:66:9
+returns-6 : tie.Need-returns-6
+returns-6 c = search (needs, whole)
+
+-- src/table.rt:46:1
+returns-7 : tie.Need-returns-7
+returns-7 c = search (needs, other-end)
+
+pub is-rule-spec : {M : Type 1} → statement M
+is-rule-spec =
+    tie.close
+    (tie.spec
+    returns
+    returns-2
+    sub-if3
+    returns-3
+    add-if4
+    returns-4
+    add-end
+    tree-at-requires
+    enum-known-e
+    enum-told
+    returns-5
+    returns-6
+    returns-7)

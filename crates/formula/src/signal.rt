@@ -1,0 +1,95 @@
+// Signals: pure formulas, found and evaluated by recursion on their place in the table.
+use crate::table::Walk;
+ghost use mathlib.Core.Path.{_≡_};
+ghost use mathlib.Core.Bool.{Bool, _&&_, _||_, not};
+ghost use Prim.Native.Nat.{_<_};
+ghost use Rattle.formula.specs.Table.{Placed};
+ghost use Rattle.formula.specs.Pure.{bit, joined};
+ghost use Rattle.formula.specs.Signal.{Purely, Signalled, Valued};
+
+// Where the formula at i ends, if it is pure.
+pub fn pure_at(ops: &[u8], nums: &[u64], i: usize) -> Walk
+    requires { ⌜ Placed (now ops) (now nums) i ⌝ }
+    ensures { λ r. ⌜ Purely (now (ops .entry)) (now (nums .entry)) i r ⌝ }
+{
+    let op = ops[i];
+    if 12 <= op {
+        return Walk::Stuck;
+    }
+    if op < 3 {
+        return Walk::Upto(i + 1);
+    }
+    if op < 4 {
+        return pure_at(ops, nums, i + 1);
+    }
+    if op < 9 {
+        return Walk::Stuck;
+    }
+    let left = pure_at(ops, nums, i + 1);
+    let Walk::Upto(e) = left else {
+        return left;
+    };
+    pure_at(ops, nums, e)
+}
+
+// Bit n of a word of truths.
+fn truth(word: u64, n: u64) -> bool
+    requires { ⌜ n < 64 ⌝ }
+    ensures { λ r. ⌜ r ≡ bit n word ⌝ }
+{
+    (word >> n) % 2 == 1
+}
+
+// A signal's value, and where the formula ends.
+pub struct Value {
+    pub value: bool,
+    pub end: usize,
+}
+
+// The value of a pure word with two operands: 9 is and, 10 or, 11 implies.
+fn join(op: u8, left: bool, right: bool) -> bool
+    ensures { λ r. ⌜ r ≡ joined op left right ⌝ }
+{
+    if op < 10 {
+        if left {
+            return right;
+        }
+        return false;
+    }
+    if op < 11 {
+        if left {
+            return true;
+        }
+        return right;
+    }
+    if left {
+        return right;
+    }
+    true
+}
+
+// The value of the pure formula at i under a word of truths.
+pub fn value_at(ops: &[u8], nums: &[u64], i: usize, word: u64) -> Value
+    requires { ⌜ Signalled (now ops) (now nums) i ⌝ }
+    ensures { λ v. ⌜ Valued (now (ops .entry)) (now (nums .entry)) i word v ⌝ }
+{
+    let op = ops[i];
+    if op < 3 {
+        return Value {
+            value: truth(word, nums[i]),
+            end: i + 1,
+        };
+    }
+    let left = value_at(ops, nums, i + 1, word);
+    if op < 4 {
+        return Value {
+            value: !left.value,
+            end: left.end,
+        };
+    }
+    let right = value_at(ops, nums, left.end, word);
+    Value {
+        value: join(op, left.value, right.value),
+        end: right.end,
+    }
+}

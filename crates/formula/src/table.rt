@@ -1,0 +1,82 @@
+// The formula table: an operation and a number for each node, in prefix order.
+ghost use mathlib.Core.Path.{_≡_};
+ghost use Prim.Native.Nat.{_≤_};
+ghost use lib.ListN.{length};
+ghost use Rattle.formula.specs.Walk.{Walked};
+ghost use Rattle.formula.specs.Table.{nodeAt, inWord, isSome, ruleOf, roomy};
+
+// Where the tree at a place ends, or that none within the limits stands there.
+pub enum Walk {
+    Upto(usize),
+    Stuck,
+}
+
+// The formula at i, which has to end by `end` and to be at most `room` deep.
+fn tree_at(ops: &[u8], nums: &[u64], i: usize, end: usize, room: usize) -> Walk
+    requires { ⌜ (end ≤ length (now ops)) × (end ≤ length (now nums)) ⌝ }
+    ensures { λ r. ⌜ Walked (nodeAt (now (ops .entry)) (now (nums .entry))) inWord i end room r ⌝ }
+{
+    if end <= i {
+        return Walk::Stuck;
+    }
+    if room == 0 {
+        return Walk::Stuck;
+    }
+    let op = ops[i];
+    if 13 <= op {
+        return Walk::Stuck;
+    }
+    if op < 3 {
+        if nums[i] < 64 {
+            return Walk::Upto(i + 1);
+        }
+        return Walk::Stuck;
+    }
+    let first = tree_at(ops, nums, i + 1, end, room - 1);
+    if op < 9 {
+        return first;
+    }
+    let Walk::Upto(e) = first else {
+        return first;
+    };
+    tree_at(ops, nums, e, end, room - 1)
+}
+
+// Whether a rule's part of the table is a formula within the limits.
+pub fn is_rule(ops: &[u8], nums: &[u64], first: usize, count: usize) -> bool
+    ensures { λ r. ⌜ r ≡ isSome (ruleOf (now (ops .entry)) (now (nums .entry)) first count) ⌝ }
+{
+    if 256 < count {
+        return false;
+    }
+    if ops.len() < count {
+        return false;
+    }
+    if ops.len() - count < first {
+        return false;
+    }
+    if nums.len() < first + count {
+        return false;
+    }
+    let end = first + count;
+    let Walk::Upto(e) = tree_at(ops, nums, first, end, 64) else {
+        return false;
+    };
+    if e == end {
+        return true;
+    }
+    false
+}
+
+// Whether the lent slices have room for 1,024 nodes.
+pub fn is_roomy(ops: &[u8], nums: &[u64]) -> bool
+    ensures { λ r. ⌜ r ≡ roomy (now (ops .entry)) (now (nums .entry)) ⌝ }
+{
+    if ops.len() < 1024 {
+        return false;
+    }
+    if nums.len() < 1024 {
+        return false;
+    }
+    true
+}
