@@ -1,0 +1,6 @@
+-- Laws of the definitions, for this crate's proofs and for those above.
+pub mod Ranges
+pub mod Rows
+pub mod Parts
+pub mod Tables
+pub mod Holds

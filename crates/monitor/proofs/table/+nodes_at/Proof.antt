@@ -1,0 +1,213 @@
+use Rattle.formula.proofs.Walks.{walk-past, walk-flat, falls-past}
+use Rattle.monitor.proofs.Tables.{node-leaf, node-left, node-two, node-unknown, row-inside}
+use Prim.Native.Nat.{_-_}
+use borrow.Author.Needs.{needs}
+use Prim.Native.Nat.{ℕ, _<_}
+use borrow.Fn.Kinds.{In}
+use borrow.Fn.PlainCycle.{Measures, is, falls, and}
+use Rattle.monitor.proofs.table.nodes_at.Reads as nodes-at
+use Rattle.monitor.proofs.table.nodes_at.Kinds as nodes-at-kinds
+use Rattle.monitor.proofs.table.+nodes_at.Lts-nodes_at as nodes-at-lts
+use Rattle.monitor.proofs.table.kind_at.Reads as kind-at-reads
+use Rattle.monitor.proofs.table.+nodes_at.{statement}
+use Rattle.monitor.proofs.table.+nodes_at.Tie.{close}
+
+abbrev μ-nodes-at : Measures 3 nodes-at-kinds.ps ℕ
+μ-nodes-at κs a = a .1 .1 .1 .1 .1 .1 .0 - a .1 .1 .1 .1 .1 .0
+
+abbrev nodes-at-at : ℕ → In 3 nodes-at-kinds.ps
+nodes-at-at t = and 3 nodes-at-kinds.ps (is 3 nodes-at-kinds.ps μ-nodes-at t) nodes-at.Pre
+
+abbrev nodes-at-below : ℕ → In 3 nodes-at-kinds.ps
+nodes-at-below t =
+    and 3 nodes-at-kinds.ps (falls 3 nodes-at-kinds.ps _<_ μ-nodes-at t) nodes-at.Pre
+
+-- src/table.rt:112:9
+nodes-at-returns : (t : ℕ) → nodes-at-lts.Need-returns (
+  kind-at-reads.Asked,
+  kind-at-reads.Learnt,
+  nodes-at-below t,
+  nodes-at.Post,
+) (nodes-at-at t) nodes-at.Post
+nodes-at-returns t c = search (needs, walk-past)
+
+-- src/table.rt:115:9
+nodes-at-returns-2 : (t : ℕ) → nodes-at-lts.Need-returns-2 (
+  kind-at-reads.Asked,
+  kind-at-reads.Learnt,
+  nodes-at-below t,
+  nodes-at.Post,
+) (nodes-at-at t) nodes-at.Post
+nodes-at-returns-2 t c = search (needs, walk-flat)
+
+-- src/table.rt:117:9
+nodes-at-kind-at-requires : (t : ℕ) → nodes-at-lts.Need-kind-at-requires (
+  kind-at-reads.Asked,
+  kind-at-reads.Learnt,
+  nodes-at-below t,
+  nodes-at.Post,
+) (nodes-at-at t) nodes-at.Post
+nodes-at-kind-at-requires t c κs = search (needs, row-inside)
+
+-- src/table.rt:120:31
+nodes-at-enum-told : (t : ℕ) → nodes-at-lts.Need-enum-told (
+  kind-at-reads.Asked,
+  kind-at-reads.Learnt,
+  nodes-at-below t,
+  nodes-at.Post,
+) (nodes-at-at t) nodes-at.Post
+nodes-at-enum-told t c = search needs
+
+-- src/table.rt:120:31
+nodes-at-add-t13 : (t : ℕ) → nodes-at-lts.Need-add-t13 (
+  kind-at-reads.Asked,
+  kind-at-reads.Learnt,
+  nodes-at-below t,
+  nodes-at.Post,
+) (nodes-at-at t) nodes-at.Post
+nodes-at-add-t13 t c = search needs
+
+-- src/table.rt:120:13
+nodes-at-returns-3 : (t : ℕ) → nodes-at-lts.Need-returns-3 (
+  kind-at-reads.Asked,
+  kind-at-reads.Learnt,
+  nodes-at-below t,
+  nodes-at.Post,
+) (nodes-at-at t) nodes-at.Post
+nodes-at-returns-3 t c = search (needs, node-leaf)
+
+-- src/table.rt:123:13
+nodes-at-enum-told-2 : (t : ℕ) → nodes-at-lts.Need-enum-told-2 (
+  kind-at-reads.Asked,
+  kind-at-reads.Learnt,
+  nodes-at-below t,
+  nodes-at.Post,
+) (nodes-at-at t) nodes-at.Post
+nodes-at-enum-told-2 t c = search needs
+
+-- src/table.rt:123:13
+nodes-at-returns-4 : (t : ℕ) → nodes-at-lts.Need-returns-4 (
+  kind-at-reads.Asked,
+  kind-at-reads.Learnt,
+  nodes-at-below t,
+  nodes-at.Post,
+) (nodes-at-at t) nodes-at.Post
+nodes-at-returns-4 t c = search (needs, node-unknown)
+
+-- src/table.rt:126:65
+nodes-at-enum-told-3 : (t : ℕ) → nodes-at-lts.Need-enum-told-3 (
+  kind-at-reads.Asked,
+  kind-at-reads.Learnt,
+  nodes-at-below t,
+  nodes-at.Post,
+) (nodes-at-at t) nodes-at.Post
+nodes-at-enum-told-3 t c = search needs
+
+-- src/table.rt:126:65
+nodes-at-add-nodes-at : (t : ℕ) → nodes-at-lts.Need-add-nodes-at (
+  kind-at-reads.Asked,
+  kind-at-reads.Learnt,
+  nodes-at-below t,
+  nodes-at.Post,
+) (nodes-at-at t) nodes-at.Post
+nodes-at-add-nodes-at t c = search needs
+
+-- src/table.rt:126:77
+nodes-at-sub-nodes-at : (t : ℕ) → nodes-at-lts.Need-sub-nodes-at (
+  kind-at-reads.Asked,
+  kind-at-reads.Learnt,
+  nodes-at-below t,
+  nodes-at.Post,
+) (nodes-at-at t) nodes-at.Post
+nodes-at-sub-nodes-at t c = search needs
+
+-- src/table.rt:126:17
+nodes-at-nodes-at-requires : (t : ℕ) → nodes-at-lts.Need-nodes-at-requires (
+  kind-at-reads.Asked,
+  kind-at-reads.Learnt,
+  nodes-at-below t,
+  nodes-at.Post,
+) (nodes-at-at t) nodes-at.Post
+nodes-at-nodes-at-requires t c κs = search needs
+
+-- src/table.rt:127:28
+nodes-at-enum-known-left : (t : ℕ) → nodes-at-lts.Need-enum-known-left (
+  kind-at-reads.Asked,
+  kind-at-reads.Learnt,
+  nodes-at-below t,
+  nodes-at.Post,
+) (nodes-at-at t) nodes-at.Post
+nodes-at-enum-known-left t c = search needs
+
+-- src/table.rt:128:17
+nodes-at-enum-told-4 : (t : ℕ) → nodes-at-lts.Need-enum-told-4 (
+  kind-at-reads.Asked,
+  kind-at-reads.Learnt,
+  nodes-at-below t,
+  nodes-at.Post,
+) (nodes-at-at t) nodes-at.Post
+nodes-at-enum-told-4 t c = search needs
+
+-- src/table.rt:128:17
+nodes-at-returns-5 : (t : ℕ) → nodes-at-lts.Need-returns-5 (
+  kind-at-reads.Asked,
+  kind-at-reads.Learnt,
+  nodes-at-below t,
+  nodes-at.Post,
+) (nodes-at-at t) nodes-at.Post
+nodes-at-returns-5 t c = search (needs, node-left)
+
+-- src/table.rt:130:69
+nodes-at-sub-nodes-at-2 : (t : ℕ) → nodes-at-lts.Need-sub-nodes-at-2 (
+  kind-at-reads.Asked,
+  kind-at-reads.Learnt,
+  nodes-at-below t,
+  nodes-at.Post,
+) (nodes-at-at t) nodes-at.Post
+nodes-at-sub-nodes-at-2 t c = search needs
+
+-- src/table.rt:130:13
+nodes-at-nodes-at-requires-2 : (t : ℕ) → nodes-at-lts.Need-nodes-at-requires-2 (
+  kind-at-reads.Asked,
+  kind-at-reads.Learnt,
+  nodes-at-below t,
+  nodes-at.Post,
+) (nodes-at-at t) nodes-at.Post
+nodes-at-nodes-at-requires-2 t c κs = search (needs, falls-past)
+
+-- src/table.rt:130:13
+nodes-at-returns-6 : (t : ℕ) → nodes-at-lts.Need-returns-6 (
+  kind-at-reads.Asked,
+  kind-at-reads.Learnt,
+  nodes-at-below t,
+  nodes-at.Post,
+) (nodes-at-at t) nodes-at.Post
+nodes-at-returns-6 t c = search (needs, node-two)
+
+pub +nodes-at-spec : {M : Type 1} → statement M
++nodes-at-spec = close μ-nodes-at λ t. nodes-at-lts.spec (
+  kind-at-reads.Asked,
+  kind-at-reads.Learnt,
+  nodes-at-below t,
+  nodes-at.Post,
+)
+    (nodes-at-at t)
+    nodes-at.Post
+    (nodes-at-returns t)
+    (nodes-at-returns-2 t)
+    (nodes-at-kind-at-requires t)
+    (nodes-at-enum-told t)
+    (nodes-at-add-t13 t)
+    (nodes-at-returns-3 t)
+    (nodes-at-enum-told-2 t)
+    (nodes-at-returns-4 t)
+    (nodes-at-enum-told-3 t)
+    (nodes-at-add-nodes-at t)
+    (nodes-at-sub-nodes-at t)
+    (nodes-at-nodes-at-requires t)
+    (nodes-at-enum-known-left t)
+    (nodes-at-enum-told-4 t)
+    (nodes-at-returns-5 t)
+    (nodes-at-sub-nodes-at-2 t)
+    (nodes-at-nodes-at-requires-2 t)
+    (nodes-at-returns-6 t)
