@@ -1,0 +1,2 @@
+-- Theorems about compiled rules.
+pub mod ReadsBack

@@ -1,0 +1,2 @@
+-- What compiling a rule answers and leaves behind.
+pub mod Compiled

@@ -1,0 +1,376 @@
+// The compiler: a rule's formula into monitor nodes (`compile_formula`).
+use formula::signal::pure_at;
+use formula::table::Walk;
+use formula::table::is_roomy;
+use formula::table::is_rule;
+use monitor::node::MonNode;
+use monitor::node::SignalExpr;
+use monitor::node::put_node;
+use monitor::range::AnchorRange;
+ghost use mathlib.Core.Path.{_≡_};
+ghost use mathlib.Core.Bool.{Bool, true, false};
+ghost use Prim.Native.Nat.{ℕ, _+_, _*_, _≤_, _<_, _^_};
+ghost use lib.ListN.{length, getD, take};
+ghost use lib.Seq.{sets};
+ghost use Rattle.formula.specs.Table.{IsRule};
+ghost use Rattle.monitor.specs.Table.{NodeNumbered};
+ghost use Rattle.monitor.specs.Compile.{anchor};
+ghost use Rattle.monitor.specs.Mon.{nodeRow, joinNode};
+ghost use Rattle.compiler.specs.Compiled.{Ready, Implied, CompiledAt, Answers, ruleCall, compileCall, refusedAs};
+
+// Where a walk's nodes and its formula end, or the refusal.
+pub enum Laid {
+    Upto(usize, usize),
+    Refused(u64),
+}
+
+// Stores one check, of a formula that ends at e.
+fn lay(out: &mut [u64], at: usize, node: MonNode, e: usize) -> Laid
+    requires { ⌜ (7 * (at + 1) ≤ length (now out)) × NodeNumbered node ⌝ }
+    ensures { λ r. ⌜ (r ≡ Laid.Upto (at + 1) e) × (now (out .exit) ≡ sets (now (out .entry)) (7 * at) (nodeRow node)) ⌝ }
+{
+    put_node(out, at, node);
+    Laid::Upto(at + 1, e)
+}
+
+// An atom: a check at its range.
+fn compile_atom(
+    ops: &[u8],
+    nums: &[u64],
+    i: usize,
+    range: AnchorRange,
+    temporal: bool,
+    out: &mut [u64],
+    at: usize,
+) -> Laid
+    requires { ⌜ Ready (now ops) (now nums) i range (now out) at × (getD (now ops) i 0 < 3) ⌝ }
+    ensures { λ r. ⌜ CompiledAt (now (ops .entry)) (now (nums .entry)) i range temporal (now (out .entry)) at (now (out .exit)) r ⌝ }
+{
+    let node = MonNode::RangeCheck {
+        expr: SignalExpr::At(i),
+        range,
+    };
+    lay(out, at, node, i + 1)
+}
+
+fn compile_not(
+    ops: &[u8],
+    nums: &[u64],
+    i: usize,
+    range: AnchorRange,
+    temporal: bool,
+    out: &mut [u64],
+    at: usize,
+) -> Laid
+    requires { ⌜ Ready (now ops) (now nums) i range (now out) at × (getD (now ops) i 0 ≡ 3) ⌝ }
+    ensures { λ r. ⌜ CompiledAt (now (ops .entry)) (now (nums .entry)) i range temporal (now (out .entry)) at (now (out .exit)) r ⌝ }
+{
+    let Walk::Upto(e) = pure_at(ops, nums, i + 1) else {
+        return Laid::Refused(18);
+    };
+    let node = MonNode::RangeCheck {
+        expr: SignalExpr::At(i),
+        range,
+    };
+    lay(out, at, node, e)
+}
+
+fn compile_next(
+    ops: &[u8],
+    nums: &[u64],
+    i: usize,
+    range: AnchorRange,
+    temporal: bool,
+    out: &mut [u64],
+    at: usize,
+) -> Laid
+    requires { ⌜ Ready (now ops) (now nums) i range (now out) at × (getD (now ops) i 0 ≡ 4) ⌝ }
+    ensures { λ r. ⌜ CompiledAt (now (ops .entry)) (now (nums .entry)) i range temporal (now (out .entry)) at (now (out .exit)) r ⌝ }
+{
+    let Walk::Upto(e) = pure_at(ops, nums, i + 1) else {
+        return Laid::Refused(17);
+    };
+    let node = MonNode::RangeCheck {
+        expr: SignalExpr::At(i + 1),
+        range: range.shifted(),
+    };
+    lay(out, at, node, e)
+}
+
+// A `within` that is not under a temporal operator has range 0 to 0.
+fn anchored(temporal: bool, range: AnchorRange) -> AnchorRange
+    ensures { λ r. ⌜ r ≡ anchor temporal range ⌝ }
+{
+    if temporal {
+        return range;
+    }
+    AnchorRange::upto(0)
+}
+
+fn compile_within(
+    ops: &[u8],
+    nums: &[u64],
+    i: usize,
+    range: AnchorRange,
+    temporal: bool,
+    out: &mut [u64],
+    at: usize,
+) -> Laid
+    requires { ⌜ Ready (now ops) (now nums) i range (now out) at × (getD (now ops) i 0 ≡ 8) ⌝ }
+    ensures { λ r. ⌜ CompiledAt (now (ops .entry)) (now (nums .entry)) i range temporal (now (out .entry)) at (now (out .exit)) r ⌝ }
+{
+    let Walk::Upto(e) = pure_at(ops, nums, i + 1) else {
+        return Laid::Refused(14);
+    };
+    let node = MonNode::Obligation {
+        bound: nums[i],
+        trigger: SignalExpr::True,
+        body: SignalExpr::At(i + 1),
+        range: anchored(temporal, range),
+    };
+    lay(out, at, node, e)
+}
+
+// `l implies within b f`: the right part stands at j.
+fn compile_owed(
+    ops: &[u8],
+    nums: &[u64],
+    i: usize,
+    j: usize,
+    range: AnchorRange,
+    temporal: bool,
+    out: &mut [u64],
+    at: usize,
+) -> Laid
+    requires { ⌜ Implied (now ops) (now nums) i j range (now out) at × (getD (now ops) j 0 ≡ 8) ⌝ }
+    ensures { λ r. ⌜ CompiledAt (now (ops .entry)) (now (nums .entry)) i range temporal (now (out .entry)) at (now (out .exit)) r ⌝ }
+{
+    let Walk::Upto(e) = pure_at(ops, nums, j + 1) else {
+        return Laid::Refused(14);
+    };
+    let node = MonNode::Obligation {
+        bound: nums[j],
+        trigger: SignalExpr::At(i + 1),
+        body: SignalExpr::At(j + 1),
+        range: anchored(temporal, range),
+    };
+    lay(out, at, node, e)
+}
+
+// `l implies next f`.
+fn compile_delayed(
+    ops: &[u8],
+    nums: &[u64],
+    i: usize,
+    j: usize,
+    range: AnchorRange,
+    temporal: bool,
+    out: &mut [u64],
+    at: usize,
+) -> Laid
+    requires { ⌜ Implied (now ops) (now nums) i j range (now out) at × (getD (now ops) j 0 ≡ 4) ⌝ }
+    ensures { λ r. ⌜ CompiledAt (now (ops .entry)) (now (nums .entry)) i range temporal (now (out .entry)) at (now (out .exit)) r ⌝ }
+{
+    let Walk::Upto(e) = pure_at(ops, nums, j + 1) else {
+        return Laid::Refused(15);
+    };
+    let node = MonNode::DelayedCheck {
+        antecedent: SignalExpr::At(i + 1),
+        consequent: SignalExpr::At(j + 1),
+        range: range.shifted(),
+    };
+    lay(out, at, node, e)
+}
+
+// A pure implication is itself the signal of its check.
+fn compile_pure_implies(
+    ops: &[u8],
+    nums: &[u64],
+    i: usize,
+    j: usize,
+    range: AnchorRange,
+    temporal: bool,
+    out: &mut [u64],
+    at: usize,
+) -> Laid
+    requires { ⌜ Implied (now ops) (now nums) i j range (now out) at × (getD (now ops) j 0 ≡ 8 → ⊥) × (getD (now ops) j 0 ≡ 4 → ⊥) ⌝ }
+    ensures { λ r. ⌜ CompiledAt (now (ops .entry)) (now (nums .entry)) i range temporal (now (out .entry)) at (now (out .exit)) r ⌝ }
+{
+    let Walk::Upto(e) = pure_at(ops, nums, j) else {
+        return Laid::Refused(16);
+    };
+    let node = MonNode::RangeCheck {
+        expr: SignalExpr::At(i),
+        range,
+    };
+    lay(out, at, node, e)
+}
+
+fn compile_implies(
+    ops: &[u8],
+    nums: &[u64],
+    i: usize,
+    range: AnchorRange,
+    temporal: bool,
+    out: &mut [u64],
+    at: usize,
+) -> Laid
+    requires { ⌜ Ready (now ops) (now nums) i range (now out) at × (getD (now ops) i 0 ≡ 11) ⌝ }
+    ensures { λ r. ⌜ CompiledAt (now (ops .entry)) (now (nums .entry)) i range temporal (now (out .entry)) at (now (out .exit)) r ⌝ }
+{
+    let Walk::Upto(j) = pure_at(ops, nums, i + 1) else {
+        return Laid::Refused(13);
+    };
+    let op = ops[j];
+    if op == 8 {
+        return compile_owed(ops, nums, i, j, range, temporal, out, at);
+    }
+    if op == 4 {
+        return compile_delayed(ops, nums, i, j, range, temporal, out, at);
+    }
+    compile_pure_implies(ops, nums, i, j, range, temporal, out, at)
+}
+
+// The node that joins two parts: 9 is and, 10 or.
+fn join_node(op: u8) -> MonNode
+    ensures { λ r. ⌜ r ≡ joinNode op ⌝ }
+{
+    if op < 10 {
+        return MonNode::And;
+    }
+    MonNode::Or
+}
+
+// Two parts joined: the node, then the left part's nodes, then the right's.
+fn compile_pair(
+    ops: &[u8],
+    nums: &[u64],
+    i: usize,
+    range: AnchorRange,
+    temporal: bool,
+    out: &mut [u64],
+    at: usize,
+) -> Laid
+    requires { ⌜ Ready (now ops) (now nums) i range (now out) at × (9 ≤ getD (now ops) i 0) × (getD (now ops) i 0 < 11) ⌝ }
+    ensures { λ r. ⌜ CompiledAt (now (ops .entry)) (now (nums .entry)) i range temporal (now (out .entry)) at (now (out .exit)) r ⌝ }
+{
+    put_node(out, at, join_node(ops[i]));
+    let left = compile_check(ops, nums, i + 1, range, temporal, out, at + 1);
+    let Laid::Upto(n, j) = left else {
+        return left;
+    };
+    compile_check(ops, nums, j, range, temporal, out, n)
+}
+
+// `always-for` is not allowed under a temporal operator, nor with bound 0.
+fn compile_always_for(
+    ops: &[u8],
+    nums: &[u64],
+    i: usize,
+    range: AnchorRange,
+    temporal: bool,
+    out: &mut [u64],
+    at: usize,
+) -> Laid
+    requires { ⌜ Ready (now ops) (now nums) i range (now out) at × (getD (now ops) i 0 ≡ 7) ⌝ }
+    ensures { λ r. ⌜ CompiledAt (now (ops .entry)) (now (nums .entry)) i range temporal (now (out .entry)) at (now (out .exit)) r ⌝ }
+{
+    if temporal {
+        return Laid::Refused(11);
+    }
+    let b = nums[i];
+    if b == 0 {
+        return Laid::Refused(12);
+    }
+    compile_check(ops, nums, i + 1, AnchorRange::upto(b - 1), true, out, at)
+}
+
+// The formula at i, checked at the steps of the range. Its nodes go to row `at` and on.
+fn compile_check(
+    ops: &[u8],
+    nums: &[u64],
+    i: usize,
+    range: AnchorRange,
+    temporal: bool,
+    out: &mut [u64],
+    at: usize,
+) -> Laid
+    requires { ⌜ Ready (now ops) (now nums) i range (now out) at ⌝ }
+    ensures { λ r. ⌜ CompiledAt (now (ops .entry)) (now (nums .entry)) i range temporal (now (out .entry)) at (now (out .exit)) r ⌝ }
+{
+    match ops[i] {
+        0 | 1 | 2 => compile_atom(ops, nums, i, range, temporal, out, at),
+        3 => compile_not(ops, nums, i, range, temporal, out, at),
+        4 => compile_next(ops, nums, i, range, temporal, out, at),
+        5 => compile_check(ops, nums, i + 1, range, true, out, at),
+        7 => compile_always_for(ops, nums, i, range, temporal, out, at),
+        8 => compile_within(ops, nums, i, range, temporal, out, at),
+        9 | 10 => compile_pair(ops, nums, i, range, temporal, out, at),
+        11 => compile_implies(ops, nums, i, range, temporal, out, at),
+        _ => Laid::Refused(19),
+    }
+}
+
+// Copies the first n numbers.
+fn copy(from: &[u64], to: &mut [u64], n: usize)
+    requires { ⌜ (n ≤ length (now from)) × (n ≤ length (now to)) ⌝ }
+    ensures { λ _. ⌜ now (to .exit) ≡ sets (now (to .entry)) 0 (take n (now (from .entry))) ⌝ }
+{
+    let mut i = 0;
+    while i < n {
+        to[i] = from[i];
+        i += 1;
+    }
+}
+
+// The count of a rule's nodes, or the refusal.
+pub enum Compiled {
+    Nodes(usize),
+    Refused(u64),
+}
+
+// A rule that is a formula within the limits. Its nodes are laid aside first, so that a refusal leaves the output as it was.
+fn compile_rule(ops: &[u8], nums: &[u64], first: usize, count: usize, out: &mut [u64]) -> Compiled
+    requires { ⌜ IsRule (now ops) (now nums) first count × (1792 ≤ length (now out)) ⌝ }
+    ensures { λ r. ⌜ Answers (ruleCall (now (ops .entry)) (now (nums .entry)) first count (now (out .entry))) r (now (out .exit)) ⌝ }
+{
+    let mut aside = [0u64; 1792];
+    let laid = compile_check(ops, nums, first, AnchorRange::all(), false, &mut aside, 0);
+    let Laid::Upto(n, _) = laid else {
+        return refused(laid);
+    };
+    copy(&aside, out, 7 * n);
+    Compiled::Nodes(n)
+}
+
+// Compiles the rule of `count` nodes at `first` into the rows of `out`.
+pub fn compile_formula(
+    ops: &[u8],
+    nums: &[u64],
+    first: usize,
+    count: usize,
+    out: &mut [u64],
+) -> Compiled
+    ensures { λ r. ⌜ Answers (compileCall (now (ops .entry)) (now (nums .entry)) first count (now (out .entry))) r (now (out .exit)) ⌝ }
+{
+    if out.len() < 1792 {
+        return Compiled::Refused(1);
+    }
+    if is_roomy(ops, nums) {
+        if is_rule(ops, nums, first, count) {
+            return compile_rule(ops, nums, first, count, out);
+        }
+        return Compiled::Refused(2);
+    }
+    Compiled::Refused(1)
+}
+
+// The refusal of a walk.
+fn refused(laid: Laid) -> Compiled
+    ensures { λ r. ⌜ r ≡ refusedAs laid ⌝ }
+{
+    match laid {
+        Laid::Refused(n) => Compiled::Refused(n),
+        Laid::Upto(_, _) => Compiled::Refused(0),
+    }
+}
