@@ -1,0 +1,250 @@
+-- The answers of the layout over a book.
+use mathlib.Core.Path.{_≡_, refl, sym, ap, ap₂, subst, _∙_}
+use mathlib.Core.Bool.{Bool, true, false, _&&_, not}
+use mathlib.Core.List.{List, [], _∷_, _++_}
+use mathlib.Core.Option.{Option, none, some}
+use mathlib.Core.Logic.{⊎-elim}
+use Prim.Native.Nat.{ℕ, zero, suc, _+_, _≤_, _<_}
+use native.Mathlib.Omega.{arith}
+use native.Mathlib.Numerals.{add-one}
+use borrow.Author.Tests.{le-leb, lt-leb, leb-true, eq-eqb, ne-eqb, eqb-true}
+use lib.Dec.{leb, ltb, eqb}
+use lib.ListN.{length, getD}
+use lib.Seq.{sets}
+use Rattle.formula.specs.Table.{roomy, isSome}
+use Rattle.formula.proofs.Cases.{below-or, true-or, true-false}
+use Rattle.formula.proofs.Walks.{both-true}
+use Rattle.monitor.specs.Mon.{Mon}
+use Rattle.monitor.specs.Table.{compiledOf}
+use Rattle.plan.specs.Width.{pick}
+use Rattle.plan.specs.Layout.{bits}
+use Rattle.plan.specs.Rows.{rowBits, Part}
+use Rattle.plan.specs.Book.{bitsBelow, properties, assumptions, firstBit, listed, kept, filledIn, isZero, partBits, Rowed, Arranged}
+use Rattle.plan.proofs.Rows.{rows-bits}
+use Rattle.layout.specs.Entry.{roomyNodes, roomyRules, monAt, bitsIn, fine, fineOf, allBelow, Outcome, outcome, pickOutcome, sound, laidOut, layoutOf, InRules, InRulesUpto}
+use Rattle.layout.specs.declared.book.Laid.{Laid}
+use Rattle.layout.specs.declared.book.Laid.the-variants.{Done, Refused}
+use Rattle.layout.proofs.Rules.{some-mon, over-formula, part-compiled}
+
+-- ---- room for 64 rules
+module _ (k r f c nf nc : List ℕ) where
+  pub short-1 : length k < 64 → false ≡ roomyRules k r f c nf nc
+  short-1 h = rw (lt-leb 64 (length k) h) refl
+
+  pub short-2 : 64 ≤ length k → length r < 64 → false ≡ roomyRules k r f c nf nc
+  short-2 h₁ h = rw (le-leb 64 (length k) h₁, lt-leb 64 (length r) h) refl
+
+  pub short-3 : 64 ≤ length k → 64 ≤ length r → length f < 64 → false ≡ roomyRules k r f c nf nc
+  short-3 h₁ h₂ h = rw (le-leb 64 (length k) h₁, le-leb 64 (length r) h₂, lt-leb 64 (length f) h) refl
+
+  pub short-4 : 64 ≤ length k → 64 ≤ length r → 64 ≤ length f → length c < 64 → false ≡ roomyRules k r f c nf nc
+  short-4 h₁ h₂ h₃ h = rw (le-leb 64 (length k) h₁, le-leb 64 (length r) h₂, le-leb 64 (length f) h₃, lt-leb 64 (length c) h) refl
+
+  pub short-5 : 64 ≤ length k → 64 ≤ length r → 64 ≤ length f → 64 ≤ length c → length nf < 64 → false ≡ roomyRules k r f c nf nc
+  short-5 h₁ h₂ h₃ h₄ h = rw (le-leb 64 (length k) h₁, le-leb 64 (length r) h₂, le-leb 64 (length f) h₃, le-leb 64 (length c) h₄, lt-leb 64 (length nf) h) refl
+
+  pub short-6 : 64 ≤ length k → 64 ≤ length r → 64 ≤ length f → 64 ≤ length c → 64 ≤ length nf → length nc < 64 → false ≡ roomyRules k r f c nf nc
+  short-6 h₁ h₂ h₃ h₄ h₅ h = rw (le-leb 64 (length k) h₁, le-leb 64 (length r) h₂, le-leb 64 (length f) h₃, le-leb 64 (length c) h₄, le-leb 64 (length nf) h₅, lt-leb 64 (length nc) h) refl
+
+  pub all-long : 64 ≤ length k → 64 ≤ length r → 64 ≤ length f → 64 ≤ length c → 64 ≤ length nf → 64 ≤ length nc → true ≡ roomyRules k r f c nf nc
+  all-long h₁ h₂ h₃ h₄ h₅ h₆ = rw (le-leb 64 (length k) h₁, le-leb 64 (length r) h₂, le-leb 64 (length f) h₃, le-leb 64 (length c) h₄, le-leb 64 (length nf) h₅, le-leb 64 (length nc) h₆) refl
+
+  record Long : Type 0 where
+    pub k-long : 64 ≤ length k
+    pub r-long : 64 ≤ length r
+    pub f-long : 64 ≤ length f
+    pub c-long : 64 ≤ length c
+    pub nf-long : 64 ≤ length nf
+    pub nc-long : 64 ≤ length nc
+
+  long : (w : Bool) → w ≡ roomyRules k r f c nf nc → w ≡ true → Long
+  long w e h =
+      let (a, p) = both-true (leb 64 (length k)) _ (sym e ∙ h) in
+      let (b, q) = both-true (leb 64 (length r)) _ p in
+      let (d, s) = both-true (leb 64 (length f)) _ q in
+      let (g, t) = both-true (leb 64 (length c)) _ s in
+      let (i, j) = both-true (leb 64 (length nf)) _ t in
+      record { k-long = leb-true _ _ a; r-long = leb-true _ _ b; f-long = leb-true _ _ d; c-long = leb-true _ _ g; nf-long = leb-true _ _ i; nc-long = leb-true _ _ j }
+
+-- ---- each rule that is said to compile does
+module _ (refusals : List ℕ) (r : ℕ) (o : Option Mon) where
+  pub fine-refused : (getD refusals r 0 ≡ 0 → ⊥) → true ≡ fine (isZero refusals r) o
+  fine-refused h = sym (ap (λ (b : Bool). fine b o) (ne-eqb _ 0 h))
+
+  pub fine-compiled : (q : Bool) → getD refusals r 0 ≡ 0 → q ≡ isSome o → q ≡ fine (isZero refusals r) o
+  fine-compiled q h e = e ∙ sym (ap (λ (b : Bool). fine b o) (eq-eqb _ 0 h))
+
+pub record Fining (refusals firsts counts nfirsts ncounts : List ℕ) (ok : ℕ → Bool) (n r : ℕ) : Type 0 where
+  pub room : InRulesUpto refusals firsts counts nfirsts ncounts n
+  pub below : r ≤ n
+  pub so-far : allBelow ok r ≡ true
+
+all-false : (ok : ℕ → Bool) (r n : ℕ) → r < n → ok r ≡ false → false ≡ allBelow ok n
+unfolding allBelow
+all-false ok r zero h e = absurd (omega arith)
+all-false ok r (suc n) h e = ⊎-elim
+    (λ l. ap (λ (b : Bool). b && ok n) (all-false ok r n l e))
+    (λ l. let z : r ≡ n = omega arith in last (allBelow ok n) (ok n) (sym (ap ok z) ∙ e))
+    (below-or r n)
+  where
+    last : (a b : Bool) → b ≡ false → false ≡ (a && b)
+    last true b p = sym p
+    last false b p = refl
+
+all-inv : (ok : ℕ → Bool) (n r : ℕ) → allBelow ok n ≡ true → r < n → ok r ≡ true
+unfolding allBelow
+all-inv ok zero r e h = absurd (omega arith)
+all-inv ok (suc n) r e h = ⊎-elim
+    (λ l. all-inv ok n r (both-true (allBelow ok n) (ok n) e .0) l)
+    (λ l. let z : r ≡ n = omega arith in ap ok z ∙ both-true (allBelow ok n) (ok n) e .1)
+    (below-or r n)
+
+module _ (refusals firsts counts nfirsts ncounts : List ℕ) (ok : ℕ → Bool) (n : ℕ) where
+  pub fining-none : InRulesUpto refusals firsts counts nfirsts ncounts n → Fining refusals firsts counts nfirsts ncounts ok n 0
+  unfolding allBelow
+  fining-none w = record { room = w; below = omega arith; so-far = refl }
+
+  module _ (r : ℕ) (g : Fining refusals firsts counts nfirsts ncounts ok n r) where
+    pub fining-all : n ≤ r → true ≡ allBelow ok n
+    fining-all h = let e : r ≡ n = omega (arith, g .below) in sym (sym (ap (allBelow ok) e) ∙ g .so-far)
+
+    module _ (h : r < n) where
+      pub fining-in : InRules refusals firsts counts nfirsts ncounts r
+      fining-in = record {
+        in-refusals = omega (arith, g .room .in-refusals);
+        in-firsts = omega (arith, g .room .in-firsts);
+        in-counts = omega (arith, g .room .in-counts);
+        in-nfirsts = omega (arith, g .room .in-nfirsts);
+        in-ncounts = omega (arith, g .room .in-ncounts);
+      }
+
+      module _ (b : Bool) (e : b ≡ ok r) where
+        pub fining-false : b ≡ false → false ≡ allBelow ok n
+        fining-false z = all-false ok r n h (sym e ∙ z)
+
+        pub fining-more : b ≡ true → Fining refusals firsts counts nfirsts ncounts ok n (r + 1)
+        unfolding allBelow
+        fining-more z = record {
+          room = g .room;
+          below = omega arith;
+          so-far = ap (allBelow ok) (add-one r) ∙ ap₂ _&&_ (g .so-far) (sym e ∙ z);
+        }
+
+-- ---- two ways to know the bits of the rules below n agree, where they compile
+module _ (compiled : ℕ → Bool) (f g : ℕ → ℕ) where
+  same-below : (chosen : ℕ → Bool) (n : ℕ) → ((r : ℕ) → r < n → pick (chosen r) (f r) 0 ≡ pick (chosen r) (g r) 0) → bitsBelow chosen f n ≡ bitsBelow chosen g n
+  unfolding bitsBelow
+  same-below chosen zero h = refl
+  same-below chosen (suc n) h = ap₂ _+_ (same-below chosen n (λ r l. h r (omega arith))) (h n (omega arith))
+
+  same-listed : (old : List ℕ) (n : ℕ) → ((r : ℕ) → r < n → pick (compiled r) (f r) (getD old r 0) ≡ pick (compiled r) (g r) (getD old r 0)) → listed (kept compiled f old) n ≡ listed (kept compiled g old) n
+  unfolding listed
+  same-listed old zero h = refl
+  same-listed old (suc n) h = ap₂ (λ (l : List ℕ) (v : ℕ). l ++ (v ∷ [])) (same-listed old n (λ r l. h r (omega arith))) (h n (omega arith))
+
+pick-same : (c : Bool) (u v w : ℕ) → (c ≡ true → u ≡ v) → pick c u w ≡ pick c v w
+pick-same true u v w h = h refl
+pick-same false u v w h = refl
+
+and-first : (a b : Bool) → (a && b) ≡ true → a ≡ true
+and-first true b e = refl
+and-first false b e = e
+
+module _ (n : ℕ) (property compiled : ℕ → Bool) (f g : ℕ → ℕ) (h : (r : ℕ) → r < n → compiled r ≡ true → f r ≡ g r) where
+  same-chosen : (other : ℕ → Bool) (m : ℕ) → m ≤ n → bitsBelow (λ r. compiled r && other r) f m ≡ bitsBelow (λ r. compiled r && other r) g m
+  same-chosen other m l = same-below compiled f g (λ r. compiled r && other r) m (λ r k. pick-same (compiled r && other r) (f r) (g r) 0 (λ e. h r (omega arith) (and-first _ _ e)))
+
+  same-first : (r : ℕ) → r < n → firstBit n property compiled f r ≡ firstBit n property compiled g r
+  same-first r l =
+      ap₂ (λ (u v : ℕ). pick (property r) u v) (same-chosen property r (omega arith))
+      (ap₂ _+_ (same-chosen property n (omega arith)) (same-chosen (λ s. not (property s)) r (omega arith)))
+
+  same-bits : (old : List ℕ) → filledIn compiled f old n ≡ filledIn compiled g old n
+  same-bits old = ap (sets old 0) (same-listed compiled f g old n (λ r l. pick-same (compiled r) (f r) (g r) (getD old r 0) (λ e. h r l e)))
+
+  same-firsts : (old : List ℕ) → filledIn compiled (firstBit n property compiled f) old n ≡ filledIn compiled (firstBit n property compiled g) old n
+  same-firsts old = ap (sets old 0) (same-listed compiled _ _ old n (λ r l. pick-same (compiled r) _ _ (getD old r 0) (λ e. same-first r l)))
+
+-- ---- the call
+module _ (ops nums firsts counts nodes nfirsts ncounts kinds refusals : List ℕ) (n : ℕ) (starts bits′ : List ℕ) where
+  answer : (w v t u s : Bool) → Outcome
+  answer w v t u s =
+      pickOutcome (w && (v && (t && u)))
+      (pickOutcome s (laidOut kinds refusals (monAt ops nums firsts counts nodes nfirsts ncounts) n starts bits′) (outcome (Refused 2) starts bits′))
+      (outcome (Refused 1) starts bits′)
+
+  layout-is : {w v t u s : Bool} → roomyNodes ops nums nodes ≡ w → roomyRules kinds refusals firsts counts nfirsts ncounts ≡ v → leb 64 (length starts) ≡ t → leb 64 (length bits′) ≡ u → sound refusals (monAt ops nums firsts counts nodes nfirsts ncounts) n ≡ s → layoutOf ops nums firsts counts nodes nfirsts ncounts kinds refusals n starts bits′ ≡ answer w v t u s
+  unfolding layoutOf answer
+  layout-is a b c d e = λ i. answer (a i) (b i) (c i) (d i) (e i)
+
+  module _ (w : Bool) (e : w ≡ roomyNodes ops nums nodes) where
+    pub layout-narrow : w ≡ false → outcome (Refused 1) starts bits′ ≡ layoutOf ops nums firsts counts nodes nfirsts ncounts kinds refusals n starts bits′
+    unfolding answer
+    layout-narrow h = sym (layout-is (sym e ∙ h) refl refl refl refl)
+
+    module _ (h : w ≡ true) (v : Bool) (e₂ : v ≡ roomyRules kinds refusals firsts counts nfirsts ncounts) where
+      pub layout-short : v ≡ false → outcome (Refused 1) starts bits′ ≡ layoutOf ops nums firsts counts nodes nfirsts ncounts kinds refusals n starts bits′
+      unfolding answer
+      layout-short g = sym (layout-is (sym e ∙ h) (sym e₂ ∙ g) refl refl refl)
+
+      module _ (g : v ≡ true) where
+        pub layout-starts : length starts < 64 → outcome (Refused 1) starts bits′ ≡ layoutOf ops nums firsts counts nodes nfirsts ncounts kinds refusals n starts bits′
+        unfolding answer
+        layout-starts l = sym (layout-is (sym e ∙ h) (sym e₂ ∙ g) (lt-leb _ _ l) refl refl)
+
+        module _ (l : 64 ≤ length starts) where
+          pub layout-bits : length bits′ < 64 → outcome (Refused 1) starts bits′ ≡ layoutOf ops nums firsts counts nodes nfirsts ncounts kinds refusals n starts bits′
+          unfolding answer
+          layout-bits m = sym (layout-is (sym e ∙ h) (sym e₂ ∙ g) (le-leb _ _ l) (lt-leb _ _ m) refl)
+
+          module _ (m : 64 ≤ length bits′) where
+            pub layout-many : 64 < n → outcome (Refused 2) starts bits′ ≡ layoutOf ops nums firsts counts nodes nfirsts ncounts kinds refusals n starts bits′
+            unfolding answer
+            layout-many k = sym (layout-is (sym e ∙ h) (sym e₂ ∙ g) (le-leb _ _ l) (le-leb _ _ m) (ap (λ (b : Bool). b && allBelow (fineOf refusals (monAt ops nums firsts counts nodes nfirsts ncounts)) n) (lt-leb _ _ k)))
+
+            module _ (k : n ≤ 64) where
+              pub rules-in : InRulesUpto refusals firsts counts nfirsts ncounts n
+              rules-in =
+                  let o = long kinds refusals firsts counts nfirsts ncounts v e₂ g in
+                  record { in-refusals = omega (arith, o .r-long); in-firsts = omega (arith, o .f-long); in-counts = omega (arith, o .c-long); in-nfirsts = omega (arith, o .nf-long); in-ncounts = omega (arith, o .nc-long) }
+
+              module _ (q : Bool) (z : q ≡ allBelow (fineOf refusals (monAt ops nums firsts counts nodes nfirsts ncounts)) n) where
+                pub layout-unsound : q ≡ false → outcome (Refused 2) starts bits′ ≡ layoutOf ops nums firsts counts nodes nfirsts ncounts kinds refusals n starts bits′
+                unfolding answer
+                layout-unsound y = sym (layout-is (sym e ∙ h) (sym e₂ ∙ g) (le-leb _ _ l) (le-leb _ _ m) (ap₂ _&&_ (le-leb _ _ k) (sym z ∙ y)))
+
+                module _ (y : q ≡ true) where
+                  is-fine : (r : ℕ) → r < n → isZero refusals r ≡ true → isSome (monAt ops nums firsts counts nodes nfirsts ncounts r) ≡ true
+                  is-fine r j c = sym (ap (λ (b : Bool). fine b (monAt ops nums firsts counts nodes nfirsts ncounts r)) c) ∙ all-inv (fineOf refusals (monAt ops nums firsts counts nodes nfirsts ncounts)) n r (sym z ∙ y) j
+
+                  pub rules-rowed : Rowed kinds refusals nodes nfirsts ncounts n
+                  rules-rowed =
+                      let o = long kinds refusals firsts counts nfirsts ncounts v e₂ g in
+                      record {
+                        few = k;
+                        in-kinds = omega (arith, o .k-long);
+                        in-refusals = omega (arith, o .r-long);
+                        in-nfirsts = omega (arith, o .nf-long);
+                        in-ncounts = omega (arith, o .nc-long);
+                        parts = λ r j c. part-compiled ops nums (getD firsts r 0) (getD counts r 0) nodes (getD nfirsts r 0) (getD ncounts r 0) _ refl (is-fine r j (eq-eqb _ 0 c));
+                      }
+
+                  pub starts-room : n ≤ length starts
+                  starts-room = omega arith
+
+                  pub bits-room : n ≤ length bits′
+                  bits-room = omega arith
+
+                  same-as-mon : (r : ℕ) → r < n → isZero refusals r ≡ true → partBits nodes nfirsts ncounts r ≡ bitsIn (monAt ops nums firsts counts nodes nfirsts ncounts r)
+                  same-as-mon r j c =
+                      let (x, p) = some-mon _ _ refl (is-fine r j c) in
+                      let (f, u) = over-formula ops nums (getD firsts r 0) (getD counts r 0) nodes (getD nfirsts r 0) (getD ncounts r 0) x p in
+                      rows-bits f (getD firsts r 0) nodes (getD nfirsts r 0) (getD ncounts r 0) x u ∙ sym (ap bitsIn p)
+
+                  pub layout-done : (starts″ bits″ : List ℕ) → Arranged n (isZero kinds) (isZero refusals) (partBits nodes nfirsts ncounts) starts starts″ bits′ bits″ → outcome Done starts″ bits″ ≡ layoutOf ops nums firsts counts nodes nfirsts ncounts kinds refusals n starts bits′
+                  unfolding answer
+                  layout-done starts″ bits″ a =
+                      ap₂ (outcome Done)
+                      (a .firsts-are ∙ same-firsts n (isZero kinds) (isZero refusals) (partBits nodes nfirsts ncounts) (λ r. bitsIn (monAt ops nums firsts counts nodes nfirsts ncounts r)) same-as-mon starts)
+                      (a .bits-are ∙ same-bits n (isZero kinds) (isZero refusals) (partBits nodes nfirsts ncounts) (λ r. bitsIn (monAt ops nums firsts counts nodes nfirsts ncounts r)) same-as-mon bits′)
+                      ∙ sym (layout-is (sym e ∙ h) (sym e₂ ∙ g) (le-leb _ _ l) (le-leb _ _ m) (ap₂ _&&_ (le-leb _ _ k) (sym z ∙ y)))

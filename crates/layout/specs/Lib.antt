@@ -1,0 +1,2 @@
+-- What the layout calls answer.
+pub mod Entry

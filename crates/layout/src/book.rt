@@ -1,0 +1,157 @@
+// First bits and bits of a book's rules.
+ghost use mathlib.Core.Path.{_≡_};
+ghost use Prim.Native.Nat.{_<_, _≤_};
+ghost use lib.ListN.{length};
+ghost use Rattle.plan.specs.Book.{isZero};
+ghost use Rattle.layout.specs.Entry.{roomyRules, monAt, fine, fineOf, allBelow, outcome, layoutOf, InRules, InRulesUpto};
+
+// The layout is made, or a refusal's number.
+pub enum Laid {
+    Done,
+    Refused(u64),
+}
+
+// Whether each list has room for 64 rules.
+fn rules_fit(
+    kinds: &[u8],
+    refusals: &[u64],
+    firsts: &[usize],
+    counts: &[usize],
+    nfirsts: &[usize],
+    ncounts: &[usize],
+) -> bool
+    ensures { λ r. ⌜ r ≡ roomyRules (now (kinds .entry)) (now (refusals .entry)) (now (firsts .entry)) (now (counts .entry)) (now (nfirsts .entry)) (now (ncounts .entry)) ⌝ }
+{
+    if kinds.len() < 64 {
+        return false;
+    }
+    if refusals.len() < 64 {
+        return false;
+    }
+    if firsts.len() < 64 {
+        return false;
+    }
+    if counts.len() < 64 {
+        return false;
+    }
+    if nfirsts.len() < 64 {
+        return false;
+    }
+    if ncounts.len() < 64 {
+        return false;
+    }
+    true
+}
+
+// Whether rule r, if it is said to compile, does.
+fn fine_at(
+    ops: &[u8],
+    nums: &[u64],
+    firsts: &[usize],
+    counts: &[usize],
+    nodes: &[u64],
+    nfirsts: &[usize],
+    ncounts: &[usize],
+    refusals: &[u64],
+    r: usize,
+) -> bool
+    requires { ⌜ InRules (now refusals) (now firsts) (now counts) (now nfirsts) (now ncounts) r ⌝ }
+    ensures { λ b. ⌜ b ≡ fine (isZero (now (refusals .entry)) r) (monAt (now (ops .entry)) (now (nums .entry)) (now (firsts .entry)) (now (counts .entry)) (now (nodes .entry)) (now (nfirsts .entry)) (now (ncounts .entry)) r) ⌝ }
+{
+    if refusals[r] != 0 {
+        return true;
+    }
+    monitor::table::is_compiled(
+        ops,
+        nums,
+        firsts[r],
+        counts[r],
+        nodes,
+        nfirsts[r],
+        ncounts[r],
+    )
+}
+
+// Whether each of n rules that is said to compile does.
+fn all_fine(
+    ops: &[u8],
+    nums: &[u64],
+    firsts: &[usize],
+    counts: &[usize],
+    nodes: &[u64],
+    nfirsts: &[usize],
+    ncounts: &[usize],
+    refusals: &[u64],
+    n: usize,
+) -> bool
+    requires { ⌜ InRulesUpto (now refusals) (now firsts) (now counts) (now nfirsts) (now ncounts) n ⌝ }
+    ensures { λ b. ⌜ b ≡ allBelow (fineOf (now (refusals .entry)) (monAt (now (ops .entry)) (now (nums .entry)) (now (firsts .entry)) (now (counts .entry)) (now (nodes .entry)) (now (nfirsts .entry)) (now (ncounts .entry)))) n ⌝ }
+{
+    let mut r: usize = 0;
+    while r < n {
+        if !fine_at(
+            ops,
+            nums,
+            firsts,
+            counts,
+            nodes,
+            nfirsts,
+            ncounts,
+            refusals,
+            r,
+        ) {
+            return false;
+        }
+        r += 1;
+    }
+    true
+}
+
+// First bits and bits of n rules: properties first, then assumptions, each in book order.
+pub fn layout(
+    ops: &[u8],
+    nums: &[u64],
+    firsts: &[usize],
+    counts: &[usize],
+    nodes: &[u64],
+    nfirsts: &[usize],
+    ncounts: &[usize],
+    kinds: &[u8],
+    refusals: &[u64],
+    n: usize,
+    starts: &mut [u64],
+    bits: &mut [u64],
+) -> Laid
+    ensures { λ r. ⌜ outcome r (now (starts .exit)) (now (bits .exit)) ≡ layoutOf (now (ops .entry)) (now (nums .entry)) (now (firsts .entry)) (now (counts .entry)) (now (nodes .entry)) (now (nfirsts .entry)) (now (ncounts .entry)) (now (kinds .entry)) (now (refusals .entry)) n (now (starts .entry)) (now (bits .entry)) ⌝ }
+{
+    if !crate::rule::is_wide(ops, nums, nodes) {
+        return Laid::Refused(1);
+    }
+    if !rules_fit(kinds, refusals, firsts, counts, nfirsts, ncounts) {
+        return Laid::Refused(1);
+    }
+    if starts.len() < 64 {
+        return Laid::Refused(1);
+    }
+    if bits.len() < 64 {
+        return Laid::Refused(1);
+    }
+    if 64 < n {
+        return Laid::Refused(2);
+    }
+    if !all_fine(
+        ops,
+        nums,
+        firsts,
+        counts,
+        nodes,
+        nfirsts,
+        ncounts,
+        refusals,
+        n,
+    ) {
+        return Laid::Refused(2);
+    }
+    plan::layout::arrange(kinds, refusals, nodes, nfirsts, ncounts, n, starts, bits);
+    Laid::Done
+}

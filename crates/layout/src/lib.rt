@@ -1,0 +1,3 @@
+// The layout calls: they test what they are lent.
+pub mod book;
+pub mod rule;

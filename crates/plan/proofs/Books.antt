@@ -1,0 +1,243 @@
+-- The bits of a book's rules: the sums over rules, and the outputs rule by rule.
+use mathlib.Core.Path.{_≡_, refl, sym, ap, ap₂, subst, _∙_}
+use mathlib.Core.Bool.{Bool, true, false, _&&_, not}
+use mathlib.Core.List.{List, [], _∷_, _++_}
+use Prim.Native.Nat.{ℕ, zero, suc, _+_, _*_, _≤_, _<_}
+use native.Mathlib.Omega.{arith}
+use native.Mathlib.Numerals.{add-one}
+use native.Mathlib.Nat.{add-zero, zero-add, add-suc, suc-add, add-assoc}
+use borrow.Author.Tests.{eq-eqb, ne-eqb}
+use lib.Dec.{eqb}
+use lib.ListN.{length, getD, set, length-append, length-set}
+use lib.Seq.{sets, length-sets, getD-set-other, set-getD}
+use mir.Syntax.{w64}
+use mir.Val.{Fits}
+use Rattle.plan.specs.Width.{pick}
+use Rattle.plan.specs.Rows.{Summed, Part}
+use Rattle.plan.specs.Book.{bitsBelow, properties, assumptions, firstBit, listed, kept, filledIn, isZero, partBits, Rowed, Chosen, Counted, Stored, Arranged}
+
+-- ---- one rule
+module _ (kinds refusals nodes nfirsts ncounts : List ℕ) (r : ℕ) where
+  pub refused-property : (getD refusals r 0 ≡ 0 → ⊥) → Chosen (properties (isZero kinds) (isZero refusals)) (partBits nodes nfirsts ncounts) r 0
+  refused-property h = record {
+    is = sym (ap (λ (t : Bool). pick (t && isZero kinds r) (partBits nodes nfirsts ncounts r) 0) (ne-eqb _ 0 h));
+    most = omega arith;
+  }
+
+  pub refused-assumption : (getD refusals r 0 ≡ 0 → ⊥) → Chosen (assumptions (isZero kinds) (isZero refusals)) (partBits nodes nfirsts ncounts) r 0
+  refused-assumption h = record {
+    is = sym (ap (λ (t : Bool). pick (t && not (isZero kinds r)) (partBits nodes nfirsts ncounts r) 0) (ne-eqb _ 0 h));
+    most = omega arith;
+  }
+
+  module _ (e : getD refusals r 0 ≡ 0) where
+    pub no-property : (getD kinds r 0 ≡ 0 → ⊥) → Chosen (properties (isZero kinds) (isZero refusals)) (partBits nodes nfirsts ncounts) r 0
+    no-property h = record {
+      is = sym (ap₂ (λ (t u : Bool). pick (t && u) (partBits nodes nfirsts ncounts r) 0) (eq-eqb _ 0 e) (ne-eqb _ 0 h));
+      most = omega arith;
+    }
+
+    pub no-assumption : getD kinds r 0 ≡ 0 → Chosen (assumptions (isZero kinds) (isZero refusals)) (partBits nodes nfirsts ncounts) r 0
+    no-assumption h = record {
+      is = sym (ap₂ (λ (t u : Bool). pick (t && not u) (partBits nodes nfirsts ncounts r) 0) (eq-eqb _ 0 e) (eq-eqb _ 0 h));
+      most = omega arith;
+    }
+
+    module _ (n : ℕ) (w : Rowed kinds refusals nodes nfirsts ncounts n) (l : r < n) where
+      pub part-of : Part nodes (getD nfirsts r 0) (getD ncounts r 0)
+      part-of = w .parts r l e
+
+      pub is-property : (b : ℕ) → getD kinds r 0 ≡ 0 → Summed nodes (getD nfirsts r 0) (getD ncounts r 0) b → Chosen (properties (isZero kinds) (isZero refusals)) (partBits nodes nfirsts ncounts) r b
+      is-property b h s = record {
+        is = s .is ∙ sym (ap₂ (λ (t u : Bool). pick (t && u) (partBits nodes nfirsts ncounts r) 0) (eq-eqb _ 0 e) (eq-eqb _ 0 h));
+        most = omega (arith, s .most, part-of .few);
+      }
+
+      pub is-assumption : (b : ℕ) → (getD kinds r 0 ≡ 0 → ⊥) → Summed nodes (getD nfirsts r 0) (getD ncounts r 0) b → Chosen (assumptions (isZero kinds) (isZero refusals)) (partBits nodes nfirsts ncounts) r b
+      is-assumption b h s = record {
+        is = s .is ∙ sym (ap₂ (λ (t u : Bool). pick (t && not u) (partBits nodes nfirsts ncounts r) 0) (eq-eqb _ 0 e) (ne-eqb _ 0 h));
+        most = omega (arith, s .most, part-of .few);
+      }
+
+-- ---- sums over rules
+counted-none : (chosen : ℕ → Bool) (bits : ℕ → ℕ) → Counted chosen bits 0 0
+unfolding bitsBelow
+counted-none chosen bits = record { is = refl; most = omega arith }
+
+counted-more : (chosen : ℕ → Bool) (bits : ℕ → ℕ) (r s b : ℕ) → Counted chosen bits r s → Chosen chosen bits r b → Counted chosen bits (r + 1) (s + b)
+unfolding bitsBelow
+counted-more chosen bits r s b c d = record {
+  is = ap₂ _+_ (c .is) (d .is) ∙ sym (ap (bitsBelow chosen bits) (add-one r));
+  most = omega (arith, c .most, d .most);
+}
+
+pub record Tallied (kinds refusals nodes nfirsts ncounts : List ℕ) (n sum r : ℕ) : Type 0 where
+  pub rowed : Rowed kinds refusals nodes nfirsts ncounts n
+  pub below : r ≤ n
+  pub so-far : Counted (properties (isZero kinds) (isZero refusals)) (partBits nodes nfirsts ncounts) r sum
+
+module _ (kinds refusals nodes nfirsts ncounts : List ℕ) (n : ℕ) where
+  pub tallied-none : Rowed kinds refusals nodes nfirsts ncounts n → Tallied kinds refusals nodes nfirsts ncounts n 0 0
+  tallied-none w = record { rowed = w; below = omega arith; so-far = counted-none _ _ }
+
+  module _ (sum r : ℕ) (t : Tallied kinds refusals nodes nfirsts ncounts n sum r) where
+    pub tallied-rowed : Rowed kinds refusals nodes nfirsts ncounts n
+    tallied-rowed = t .rowed
+
+    pub tallied-all : n ≤ r → Counted (properties (isZero kinds) (isZero refusals)) (partBits nodes nfirsts ncounts) n sum
+    tallied-all h = subst (λ (k : ℕ). Counted (properties (isZero kinds) (isZero refusals)) (partBits nodes nfirsts ncounts) k sum) (omega (arith, t .below)) (t .so-far)
+
+    module _ (h : r < n) (b : ℕ) (d : Chosen (properties (isZero kinds) (isZero refusals)) (partBits nodes nfirsts ncounts) r b) where
+      pub tallied-fits : Fits w64 (sum + b)
+      tallied-fits = record { fits = omega (arith, t .so-far .most, d .most, t .rowed .few) }
+
+      pub tallied-more : Tallied kinds refusals nodes nfirsts ncounts n (sum + b) (r + 1)
+      tallied-more = record { rowed = t .rowed; below = omega arith; so-far = counted-more _ _ r sum b (t .so-far) d }
+
+-- ---- one rule's values, stored
+module _ (kinds refusals : List ℕ) (r x y b : ℕ) (s t : List ℕ) where
+  pub stored-refused : (getD refusals r 0 ≡ 0 → ⊥) → Stored (isZero refusals r) (isZero kinds r) r x y b s s t t
+  stored-refused h = record {
+    first-is = sym (ap (λ (c : Bool). set s r (pick c (pick (isZero kinds r) x y) (getD s r 0))) (ne-eqb _ 0 h) ∙ set-getD s r 0);
+    bits-are = sym (ap (λ (c : Bool). set t r (pick c b (getD t r 0))) (ne-eqb _ 0 h) ∙ set-getD t r 0);
+  }
+
+  module _ (e : getD refusals r 0 ≡ 0) where
+    pub stored-property : getD kinds r 0 ≡ 0 → Stored (isZero refusals r) (isZero kinds r) r x y b s (set s r x) t (set t r b)
+    stored-property h = record {
+      first-is = sym (ap₂ (λ (c d : Bool). set s r (pick c (pick d x y) (getD s r 0))) (eq-eqb _ 0 e) (eq-eqb _ 0 h));
+      bits-are = sym (ap (λ (c : Bool). set t r (pick c b (getD t r 0))) (eq-eqb _ 0 e));
+    }
+
+    pub stored-assumption : (getD kinds r 0 ≡ 0 → ⊥) → Stored (isZero refusals r) (isZero kinds r) r x y b s (set s r y) t (set t r b)
+    stored-assumption h = record {
+      first-is = sym (ap₂ (λ (c d : Bool). set s r (pick c (pick d x y) (getD s r 0))) (eq-eqb _ 0 e) (ne-eqb _ 0 h));
+      bits-are = sym (ap (λ (c : Bool). set t r (pick c b (getD t r 0))) (eq-eqb _ 0 e));
+    }
+
+-- ---- the outputs, rule by rule
+sets-snoc : (xs l : List ℕ) (i v : ℕ) → sets l i (xs ++ (v ∷ [])) ≡ set (sets l i xs) (i + length xs) v
+sets-snoc [] l i v = ap (λ (k : ℕ). set l k v) (sym (add-zero i))
+sets-snoc (x ∷ xs) l i v =
+    sets-snoc xs (set l i x) (suc i) v ∙ ap (λ (k : ℕ). set (sets (set l i x) (suc i) xs) k v) (suc-add i (length xs) ∙ sym (add-suc i (length xs)))
+
+getD-past : (xs l : List ℕ) (i j : ℕ) → i + length xs ≤ j → getD (sets l i xs) j 0 ≡ getD l j 0
+getD-past [] l i j h = refl
+getD-past (x ∷ xs) l i j h =
+    let n : j ≡ i → ⊥ = λ e. omega arith in
+    getD-past xs (set l i x) (suc i) j (omega arith) ∙ getD-set-other l i j x 0 n
+
+listed-length : (f : ℕ → ℕ) (r : ℕ) → length (listed f r) ≡ r
+unfolding listed
+listed-length f zero = refl
+listed-length f (suc r) = length-append (listed f r) (f r ∷ []) ∙ omega (arith, listed-length f r)
+
+fill-more : (old : List ℕ) (g : ℕ → ℕ) (r v : ℕ) → v ≡ g r → set (sets old 0 (listed g r)) r v ≡ sets old 0 (listed g (r + 1))
+unfolding listed
+fill-more old g r v e =
+    ap₂ (λ (k w : ℕ). set (sets old 0 (listed g r)) k w) (sym (zero-add (length (listed g r)) ∙ listed-length g r)) e
+    ∙ sym (sets-snoc (listed g r) old 0 (g r))
+    ∙ sym (ap (λ (k : ℕ). sets old 0 (listed g k)) (add-one r))
+
+fill-same : (old : List ℕ) (g : ℕ → ℕ) (r : ℕ) → getD (sets old 0 (listed g r)) r 0 ≡ getD old r 0
+fill-same old g r = getD-past (listed g r) old 0 r (omega (arith, listed-length g r))
+
+one-of-two : (c q : Bool) (v p a u : ℕ) → p ≡ pick (c && q) v 0 → a ≡ pick (c && not q) v 0 → pick c (p + a) u ≡ pick c v u
+one-of-two true true v p a u e f = omega arith
+one-of-two true false v p a u e f = omega arith
+one-of-two false q v p a u e f = refl
+
+-- r rules are placed: x is the next property's first bit, y the next assumption's
+pub record Arranging (kinds refusals nodes nfirsts ncounts : List ℕ) (n : ℕ) (starts starts′ bits bits′ : List ℕ) (x y r : ℕ) : Type 0 where
+  pub rowed : Rowed kinds refusals nodes nfirsts ncounts n
+  pub in-starts : n ≤ length starts
+  pub in-bits : n ≤ length bits
+  pub below : r ≤ n
+  pub next-property : Counted (properties (isZero kinds) (isZero refusals)) (partBits nodes nfirsts ncounts) r x
+  pub next-assumption : y ≡ bitsBelow (properties (isZero kinds) (isZero refusals)) (partBits nodes nfirsts ncounts) n + bitsBelow (assumptions (isZero kinds) (isZero refusals)) (partBits nodes nfirsts ncounts) r
+  pub most : y ≤ 16640 * n + 16640 * r
+  pub firsts-are : starts′ ≡ filledIn (isZero refusals) (firstBit n (isZero kinds) (isZero refusals) (partBits nodes nfirsts ncounts)) starts r
+  pub bits-are : bits′ ≡ filledIn (isZero refusals) (partBits nodes nfirsts ncounts) bits r
+
+module _ (kinds refusals nodes nfirsts ncounts : List ℕ) (n : ℕ) (starts bits : List ℕ) where
+  pub arranging-none : (y : ℕ) → Rowed kinds refusals nodes nfirsts ncounts n → n ≤ length starts → n ≤ length bits → Counted (properties (isZero kinds) (isZero refusals)) (partBits nodes nfirsts ncounts) n y → Arranging kinds refusals nodes nfirsts ncounts n starts starts bits bits 0 y 0
+  unfolding bitsBelow listed
+  arranging-none y w a b c = record {
+    rowed = w;
+    in-starts = a;
+    in-bits = b;
+    below = omega arith;
+    next-property = counted-none _ _;
+    next-assumption = omega (arith, c .is);
+    most = omega (arith, c .most);
+    firsts-are = refl;
+    bits-are = refl;
+  }
+
+  module _ (starts′ bits′ : List ℕ) (x y r : ℕ) (g : Arranging kinds refusals nodes nfirsts ncounts n starts starts′ bits bits′ x y r) where
+    pub arranging-rowed : Rowed kinds refusals nodes nfirsts ncounts n
+    arranging-rowed = g .rowed
+
+    pub starts-length : length starts′ ≡ length starts
+    starts-length = ap length (g .firsts-are) ∙ length-sets starts 0 (listed (kept (isZero refusals) (firstBit n (isZero kinds) (isZero refusals) (partBits nodes nfirsts ncounts)) starts) r)
+
+    pub bits-length : length bits′ ≡ length bits
+    bits-length = ap length (g .bits-are) ∙ length-sets bits 0 (listed (kept (isZero refusals) (partBits nodes nfirsts ncounts) bits) r)
+
+    pub arranged : n ≤ r → Arranged n (isZero kinds) (isZero refusals) (partBits nodes nfirsts ncounts) starts starts′ bits bits′
+    arranged h =
+        let e : r ≡ n = omega (arith, g .below) in
+        record {
+          firsts-are = g .firsts-are ∙ ap (filledIn (isZero refusals) (firstBit n (isZero kinds) (isZero refusals) (partBits nodes nfirsts ncounts)) starts) e;
+          bits-are = g .bits-are ∙ ap (filledIn (isZero refusals) (partBits nodes nfirsts ncounts) bits) e;
+        }
+
+    module _ (h : r < n) where
+      pub arranging-room : (r < length kinds) × ((r < length refusals) × ((r < length starts′) × (r < length bits′)))
+      arranging-room = (omega (arith, g .rowed .in-kinds), (omega (arith, g .rowed .in-refusals), (omega (arith, starts-length, g .in-starts), omega (arith, bits-length, g .in-bits))))
+
+      module _ (p a : ℕ) (d : Chosen (properties (isZero kinds) (isZero refusals)) (partBits nodes nfirsts ncounts) r p) (f : Chosen (assumptions (isZero kinds) (isZero refusals)) (partBits nodes nfirsts ncounts) r a) where
+        pub both-fit : Fits w64 (p + a)
+        both-fit = record { fits = omega (arith, d .most, f .most) }
+
+        pub property-fits : Fits w64 (x + p)
+        property-fits = record { fits = omega (arith, g .next-property .most, d .most, g .rowed .few) }
+
+        pub assumption-fits : Fits w64 (y + a)
+        assumption-fits = record { fits = omega (arith, g .most, f .most, g .rowed .few) }
+
+        pub arranging-more : (starts″ bits″ : List ℕ) → Stored (isZero refusals r) (isZero kinds r) r x y (p + a) starts′ starts″ bits′ bits″ → Arranging kinds refusals nodes nfirsts ncounts n starts starts″ bits bits″ (x + p) (y + a) (r + 1)
+        unfolding bitsBelow
+        arranging-more starts″ bits″ s = record {
+          rowed = g .rowed;
+          in-starts = g .in-starts;
+          in-bits = g .in-bits;
+          below = omega arith;
+          next-property = counted-more _ _ r x p (g .next-property) d;
+          next-assumption =
+              ap₂ _+_ (g .next-assumption) (f .is)
+              ∙ add-assoc _ _ _
+              ∙ ap (λ (k : ℕ). bitsBelow (properties (isZero kinds) (isZero refusals)) (partBits nodes nfirsts ncounts) n + bitsBelow (assumptions (isZero kinds) (isZero refusals)) (partBits nodes nfirsts ncounts) k) (sym (add-one r));
+          most = omega (arith, g .most, f .most);
+          firsts-are =
+              s .first-is
+              ∙ ap (λ (l : List ℕ). set l r (pick (isZero refusals r) (pick (isZero kinds r) x y) (getD l r 0))) (g .firsts-are)
+              ∙ fill-more starts firsts r _ (first-value (isZero refusals r));
+          bits-are =
+              s .bits-are
+              ∙ ap (λ (l : List ℕ). set l r (pick (isZero refusals r) (p + a) (getD l r 0))) (g .bits-are)
+              ∙ fill-more bits widths r _ (bits-value (isZero refusals r) (isZero kinds r) (d .is) (f .is));
+        }
+          where
+            firsts : ℕ → ℕ
+            firsts = kept (isZero refusals) (firstBit n (isZero kinds) (isZero refusals) (partBits nodes nfirsts ncounts)) starts
+
+            widths : ℕ → ℕ
+            widths = kept (isZero refusals) (partBits nodes nfirsts ncounts) bits
+
+            first-value : (c : Bool) → pick c (pick (isZero kinds r) x y) (getD (sets starts 0 (listed firsts r)) r 0) ≡ pick c (firstBit n (isZero kinds) (isZero refusals) (partBits nodes nfirsts ncounts) r) (getD starts r 0)
+            first-value true = ap₂ (λ (u v : ℕ). pick (isZero kinds r) u v) (g .next-property .is) (g .next-assumption)
+            first-value false = fill-same starts firsts r
+
+            bits-value : (c q : Bool) → p ≡ pick (c && q) (partBits nodes nfirsts ncounts r) 0 → a ≡ pick (c && not q) (partBits nodes nfirsts ncounts r) 0 → pick c (p + a) (getD (sets bits 0 (listed widths r)) r 0) ≡ pick c (partBits nodes nfirsts ncounts r) (getD bits r 0)
+            bits-value c q u v = one-of-two c q (partBits nodes nfirsts ncounts r) p a _ u v ∙ ap (pick c (partBits nodes nfirsts ncounts r)) (fill-same bits widths r)

@@ -1,0 +1,49 @@
+use Rattle.plan.proofs.Books.{Tallied, tallied-none, tallied-rowed, tallied-all, tallied-fits, tallied-more}
+use Prim.Native.Nat.{_-_}
+use borrow.Author.Needs.{needs}
+use Rattle.plan.proofs.layout.property_bits.Statement.{statement}
+use Rattle.plan.proofs.layout.property_bits.Tie as tie
+use Rattle.plan.proofs.layout.property_bits.Reads as reads
+use Rattle.plan.proofs.layout.property_bits.Lts as lts
+use Rattle.plan.proofs.layout.property_at.Reads as property-at-reads
+
+abbrev Inv-loop : tie.InvT-loop
+Inv-loop kinds refusals nodes nfirsts ncounts n sum₀ r₀ sum r = Tallied kinds refusals nodes nfirsts ncounts n sum r
+
+abbrev μ-loop : tie.MeasureT-loop
+μ-loop kinds refusals nodes nfirsts ncounts n sum₀ r₀ sum r = n - r
+
+loop-holds : tie.Need-loop-holds Inv-loop μ-loop
+loop-holds c = search (needs, tallied-none)
+
+property-at-requires : tie.Need-property-at-requires Inv-loop μ-loop
+property-at-requires c κs = (search (needs, tallied-rowed), search needs)
+
+add-sum : tie.Need-add-sum Inv-loop μ-loop
+add-sum c = search (needs, tallied-fits)
+
+add-r : tie.Need-add-r Inv-loop μ-loop
+add-r c = search needs
+
+loop-less : tie.Need-loop-less Inv-loop μ-loop
+loop-less c = search needs
+
+loop-again : tie.Need-loop-again Inv-loop μ-loop
+loop-again c = search (needs, tallied-more)
+
+returns : tie.Need-returns Inv-loop μ-loop
+returns c = search (needs, tallied-all)
+
+pub property-bits-spec : {M : Type 1} → statement M
+property-bits-spec =
+    tie.close
+    (tie.spec
+    Inv-loop
+    μ-loop
+    loop-holds
+    property-at-requires
+    add-sum
+    add-r
+    loop-less
+    loop-again
+    returns)

@@ -1,0 +1,43 @@
+-- The same from the numbers of a node table: column 0 of a row is the form, column 1 the bound. `rows-pieces` (proofs/Rows.antt): where a part of
+-- the table is a compiled rule, its rows give that rule's pieces.
+use mathlib.Core.Path.{_≡_}
+use mathlib.Core.Bool.{Bool, true, false}
+use mathlib.Core.List.{List, [], _∷_}
+use Prim.Native.Nat.{ℕ, zero, suc, _+_, _*_, _≤_, _<_}
+use lib.Dec.{eqb}
+use lib.ListN.{length, getD}
+use Rattle.plan.specs.Layout.{nothing, register, owing, breadth, total}
+use Rattle.plan.specs.declared.layout.Piece.{Piece}
+
+abbrev pub pickPiece : Bool → Piece → Piece → Piece
+pickPiece true p q = p
+pickPiece false p q = q
+
+abbrev pub pieceOf : ℕ → ℕ → Piece
+pieceOf form bound = pickPiece (eqb form 1) register (pickPiece (eqb form 2) (owing bound) nothing)
+
+abbrev pub rowPiece : List ℕ → ℕ → Piece
+rowPiece nodes i = pieceOf (getD nodes (7 * i) 0) (getD nodes (7 * i + 1) 0)
+
+-- n rows from row i on
+unfoldable pub rowPieces : List ℕ → ℕ → ℕ → List Piece
+rowPieces nodes i zero = []
+rowPieces nodes i (suc n) = rowPiece nodes i ∷ rowPieces nodes (i + 1) n
+
+abbrev pub rowBits : List ℕ → ℕ → ℕ → ℕ
+rowBits nodes i n = total (rowPieces nodes i n)
+
+-- a node's bits are at most 65
+pub record Breadth (form bound r : ℕ) : Type 0 where
+  pub is : r ≡ breadth (pieceOf form bound)
+  pub most : r ≤ 65
+
+-- the bits of n rows, at most 65 each
+pub record Summed (nodes : List ℕ) (i n r : ℕ) : Type 0 where
+  pub is : r ≡ rowBits nodes i n
+  pub most : r ≤ 65 * n
+
+-- rows i up to i + n of at most 256, all in the table
+pub record Part (nodes : List ℕ) (i n : ℕ) : Type 0 where
+  pub few : n ≤ 256
+  pub inside : 7 * (i + n) ≤ length nodes
