@@ -1,0 +1,4 @@
+-- What makes two compiled rules alike, and what the walks that find it answer.
+pub mod Alike
+pub mod Signs
+pub mod Rows
