@@ -1,0 +1,12 @@
+-- Laws of the definitions, for this crate's proofs and for those above.
+pub mod Truths
+pub mod Windows
+pub mod Steps
+pub mod Culprits
+pub mod Shapes
+pub mod Calls
+pub mod Machines
+pub mod Logics
+pub mod Plains
+pub mod Meaning
+pub mod Differences

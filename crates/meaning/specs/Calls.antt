@@ -1,0 +1,66 @@
+-- Lists of step calls, refused ones included, from a fresh monitor on.
+--     stepAll, answerOf   each call gets the state as the last one left it
+--     InOrder             the accepted calls are at k, k+1, k+2 and on
+--     recordOf            the truths of the accepted calls in their order
+--     Over                they are the first words of a record
+--     firstReport         stepping over a list of words up to the first report
+use mathlib.Core.Bool.{Bool, true, false}
+use mathlib.Core.List.{List, [], _∷_}
+use mathlib.Core.Option.{Option, none, some}
+use mathlib.Core.Path.{_≡_}
+use Prim.Native.Nat.{ℕ, suc, _<_}
+use lib.IntN.{ℤ}
+use lib.ListN.{length, getD}
+use Rattle.monitor.specs.Mon.{Mon}
+use Rattle.meaning.specs.Alarm.{Record}
+use Rattle.meaning.specs.State.{State, culprit, step, newlyFailed}
+
+-- a call: refused, or accepted at a step with its truths
+pub data Call : Type 0 where
+  refused : Call
+  accepted : (s w : ℕ) → Call
+
+-- a refused call leaves no trace
+abbrev pub stepCall : (m : Mon) → State m → Call → State m
+stepCall m st refused = st
+stepCall m st (accepted s w) = step m st s w .state
+
+unfoldable pub stepAll : (m : Mon) → State m → List Call → State m
+stepAll m st [] = st
+stepAll m st (c ∷ cs) = stepAll m (stepCall m st c) cs
+
+-- what a call reports
+abbrev pub answerOf : (m : Mon) → State m → Call → Bool
+answerOf m st refused = false
+answerOf m st (accepted s w) = newlyFailed m st s w
+
+unfoldable pub InOrder : ℕ → List Call → Type 0
+InOrder k [] = Unit {0}
+InOrder k (refused ∷ cs) = InOrder k cs
+InOrder k (accepted s w ∷ cs) = (s ≡ k) × InOrder (suc k) cs
+
+unfoldable pub words : List Call → List ℕ
+words [] = []
+words (refused ∷ cs) = words cs
+words (accepted s w ∷ cs) = w ∷ words cs
+
+-- how many calls were accepted
+abbrev pub steps : List Call → ℕ
+steps cs = length (words cs)
+
+abbrev pub recordOf : List Call → Record
+recordOf cs s = getD (words cs) s 0
+
+abbrev pub Over : Record → List Call → Type 0
+Over rec cs = (i : ℕ) → i < steps cs → recordOf cs i ≡ rec i
+
+-- ---- many words at once, from step s on: the step and the culprit of the first report, if there is one
+abbrev pub orElse : Bool → Option (ℕ × ℤ) → Option (ℕ × ℤ) → Option (ℕ × ℤ)
+orElse true a b = a
+orElse false a b = b
+
+unfoldable pub firstReport : (m : Mon) → State m → ℕ → List ℕ → Option (ℕ × ℤ)
+firstReport m st s [] = none
+firstReport m st s (w ∷ ws) =
+    let next = step m st s w .state in
+    orElse (newlyFailed m st s w) (some (s, culprit m next)) (firstReport m next (suc s) ws)

@@ -1,0 +1,2 @@
+-- The theorem of the table.
+pub mod Trips
