@@ -1,0 +1,4 @@
+-- Demand 3 of the code's calls.
+pub mod Following
+pub mod Demand
+pub mod Staying

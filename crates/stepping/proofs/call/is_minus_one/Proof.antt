@@ -1,0 +1,21 @@
+use Rattle.stepping.proofs.Fitting.{minus-below, minus-one-here, minus-up}
+use borrow.Author.Needs.{needs}
+use Rattle.stepping.proofs.call.is_minus_one.Statement.{statement}
+use Rattle.stepping.proofs.call.is_minus_one.Tie as tie
+use Rattle.stepping.proofs.call.is_minus_one.Reads as reads
+use Rattle.stepping.proofs.call.is_minus_one.Lts as lts
+
+-- src/call.rt:30:13
+returns : tie.Need-returns
+returns c = search (needs, minus-below)
+
+-- src/call.rt:32:9
+returns-2 : tie.Need-returns-2
+returns-2 c = search (needs, minus-one-here)
+
+-- src/call.rt:25:1
+returns-3 : tie.Need-returns-3
+returns-3 c = search (needs, minus-up)
+
+pub is-minus-one-spec : {M : Type 1} → statement M
+is-minus-one-spec = tie.close (tie.spec returns returns-2 returns-3)

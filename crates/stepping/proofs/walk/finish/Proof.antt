@@ -1,0 +1,69 @@
+use Rattle.stepping.proofs.Walking.{finish-all, pair-entry, pair-fits, pair-left, pair-right}
+use borrow.Author.Needs.{needs}
+use Rattle.stepping.proofs.walk.finish.Statement.{statement}
+use Rattle.stepping.proofs.walk.finish.Tie as tie
+use Rattle.stepping.proofs.walk.finish.Reads as reads
+use Rattle.stepping.proofs.walk.finish.Lts as lts
+use Rattle.stepping.proofs.state.load.Reads as load-reads
+use Rattle.stepping.proofs.state.store.Reads as store-reads
+use Rattle.stepping.proofs.walk.joined.Reads as joined-reads
+
+-- src/walk.rt:106:9
+load-requires : tie.Need-load-requires
+load-requires c κs = search (needs, pair-entry)
+
+-- src/walk.rt:107:53
+add-load : tie.Need-add-load
+add-load c = search (needs, pair-fits)
+
+-- src/walk.rt:107:9
+load-requires-2 : tie.Need-load-requires-2
+load-requires-2 c κs = search (needs, pair-left)
+
+-- src/walk.rt:108:9
+load-requires-3 : tie.Need-load-requires-3
+load-requires-3 c κs = search (needs, pair-right)
+
+-- src/walk.rt:109:9
+joined-requires : tie.Need-joined-requires
+joined-requires c κs = search needs
+
+-- src/walk.rt:110:5
+store-requires : tie.Need-store-requires
+store-requires c κs = pair-entry _ _ _ (c .before .before .before .before .before .before .before .before .before .before .before .before .before .before .before .before .before .before .before .before .before .before .before .pre)
+
+-- src/walk.rt:102:1
+same-length : tie.Need-same-length
+same-length c = search needs
+
+-- src/walk.rt:102:1
+same-length-2 : tie.Need-same-length-2
+same-length-2 c = search needs
+
+-- src/walk.rt:102:1
+same-length-3 : tie.Need-same-length-3
+same-length-3 c = search needs
+
+-- src/walk.rt:102:1
+same-length-4 : tie.Need-same-length-4
+same-length-4 c = search needs
+
+-- src/walk.rt:102:1
+returns : tie.Need-returns
+returns c = finish-all _ _ _ _ _ _ _ _ _ _ _ (c .before .before .before .before .before .before .before .before .before .before .before .before .before .before .before .before .before .before .before .before .before .before .before .load .ensures) (c .before .before .before .before .before .before .before .before .before .before .before .before .before .before .before .before .before .before .load2 .ensures) (c .before .before .before .before .before .before .before .before .before .before .before .before .before .load3 .ensures) (c .before .before .before .before .before .before .before .before .before .before .before .before .joined .ensures) (c .before .before .before .before .before .before .before .store .ensures)
+
+pub finish-spec : {M : Type 1} → statement M
+finish-spec =
+    tie.close
+    (tie.spec
+    load-requires
+    add-load
+    load-requires-2
+    load-requires-3
+    joined-requires
+    store-requires
+    same-length
+    same-length-2
+    same-length-3
+    same-length-4
+    returns)

@@ -1,0 +1,78 @@
+-- A fresh monitor as one total function of what is lent.
+use mathlib.Core.Bool.{Bool, true, false}
+use mathlib.Core.List.{List, [], _∷_}
+use mathlib.Core.Option.{Option, none, some}
+use mathlib.Core.Path.{_≡_}
+use Prim.Native.Nat.{ℕ, zero, suc, _+_, _*_, _≤_}
+use lib.ListN.{length, getD, replicate}
+use lib.Seq.{sets}
+use Rattle.monitor.specs.Mon.{Mon}
+use Rattle.meaning.specs.Culprit.{minus-one}
+use Rattle.stepping.specs.declared.fresh.Outcome.{Outcome}
+use Rattle.stepping.specs.declared.fresh.Outcome.the-variants.{Made, Refused}
+use Rattle.stepping.specs.Memory.{Memory, Inside}
+use Rattle.stepping.specs.Call.{Tables, Monitor, isLent, lentOf, ruleMon}
+
+-- the numbers in one column of n rows
+unfoldable pub column : List ℕ → ℕ → ℕ → ℕ → List ℕ
+column nodes col i zero = []
+column nodes col i (suc n) = getD nodes (7 * i + col) 0 ∷ column nodes col (i + 1) n
+
+-- the first n entries hold nothing pending, failed or remembered, and culprits of minus 1
+abbrev pub cleared : Memory → ℕ → Memory
+cleared mem n = record {
+  held = sets (mem .held) 0 (replicate n false);
+  remaining = sets (mem .remaining) 0 (replicate n 0);
+  failed = sets (mem .failed) 0 (replicate n false);
+  culprits = sets (mem .culprits) 0 (replicate n minus-one);
+}
+
+-- the monitor that is made: its nodes' forms and bounds, and cleared entries; entries past its own keep what they held
+abbrev pub freshOf : Tables → Monitor → Monitor
+freshOf t k = record {
+  size = t .ncount;
+  forms = sets (k .forms) 0 (column (t .nodes) 0 (t .nfirst) (t .ncount));
+  bounds = sets (k .bounds) 0 (column (t .nodes) 1 (t .nfirst) (t .ncount));
+  memory = cleared (k .memory) (t .ncount);
+}
+
+pub record Making : Type 0 where
+  pub answer : Outcome
+  pub forms : List ℕ
+  pub bounds : List ℕ
+  pub memory : Memory
+
+abbrev pub refuse : ℕ → List ℕ → List ℕ → Memory → Making
+refuse n forms bounds mem = record { answer = Refused n; forms = forms; bounds = bounds; memory = mem }
+
+abbrev pub makeMon : Option Mon → Tables → List ℕ → List ℕ → Memory → Making
+makeMon none t forms bounds mem = refuse 2 forms bounds mem
+makeMon (some m) t forms bounds mem =
+    let k = freshOf t (record { size = 0; forms = forms; bounds = bounds; memory = mem }) in
+    record { answer = Made (t .ncount); forms = k .forms; bounds = k .bounds; memory = k .memory }
+
+abbrev pub orShort : Bool → List ℕ → List ℕ → Memory → Making → Making
+orShort true forms bounds mem c = c
+orShort false forms bounds mem c = refuse 1 forms bounds mem
+
+-- document 01's answer to making a monitor, for whatever is lent: 1, then 2, else the fresh monitor
+unfoldable pub making : Tables → List ℕ → List ℕ → Memory → Making
+making t forms bounds mem = orShort (lentOf (t .ops) (t .nums) (t .nodes) forms bounds mem) forms bounds mem (makeMon (ruleMon t) t forms bounds mem)
+
+pub record freshCall (t : Tables) (forms bounds : List ℕ) (mem : Memory) (r : Outcome) (forms′ bounds′ : List ℕ) (mem′ : Memory) : Type 0 where
+  pub answers : r ≡ making t forms bounds mem .answer
+  pub forms-are : forms′ ≡ making t forms bounds mem .forms
+  pub bounds-are : bounds′ ≡ making t forms bounds mem .bounds
+  pub memory-is : mem′ ≡ making t forms bounds mem .memory
+
+-- ---- parts
+pub record MakeReady (nodes : List ℕ) (nfirst ncount : ℕ) (forms bounds : List ℕ) (mem : Memory) : Type 0 where
+  pub rows : 7 * (nfirst + ncount) ≤ length nodes
+  pub forms-in : ncount ≤ length forms
+  pub bounds-in : ncount ≤ length bounds
+  pub inside : Inside mem ncount
+
+pub record Makes (nodes : List ℕ) (nfirst ncount : ℕ) (forms bounds : List ℕ) (mem : Memory) (forms′ bounds′ : List ℕ) (mem′ : Memory) : Type 0 where
+  pub forms-are : forms′ ≡ sets forms 0 (column nodes 0 nfirst ncount)
+  pub bounds-are : bounds′ ≡ sets bounds 0 (column nodes 1 nfirst ncount)
+  pub memory-is : mem′ ≡ cleared mem ncount

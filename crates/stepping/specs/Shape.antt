@@ -1,0 +1,57 @@
+-- Document 01, refusal 2, for a monitor: a state whose form or bound is not its node's, a culprit below minus 1 or, on a range or delayed
+-- check, other than minus 1, a pending, unfailed obligation with remaining outside 1 to its bound.
+use mathlib.Core.Bool.{Bool, true, false, _&&_, _||_}
+use mathlib.Core.Bool as bool
+use mathlib.Core.List.{List}
+use Prim.Native.Nat.{ℕ, zero, suc, _+_}
+use lib.Dec.{eqb, leb}
+use lib.IntN.{ℤ, pos, negsuc}
+use lib.ListN.{getD}
+use Rattle.monitor.specs.declared.node.MonNode.{MonNode}
+use Rattle.monitor.specs.declared.node.MonNode.the-variants.{RangeCheck, DelayedCheck, Obligation, And as AndNode, Or as OrNode}
+use Rattle.monitor.specs.declared.node.Row.{Row}
+use Rattle.monitor.specs.declared.node.Row.the-variants.{Node, Unknown}
+use Rattle.monitor.specs.Table.{rowOf}
+use Rattle.stepping.specs.declared.state.NodeState.{NodeState}
+use Rattle.stepping.specs.Memory.{Memory, get}
+
+abbrev pub isMinusOne : ℤ → Bool
+isMinusOne (pos n) = false
+isMinusOne (negsuc zero) = true
+isMinusOne (negsuc (suc n)) = false
+
+abbrev pub fromMinusOne : ℤ → Bool
+fromMinusOne (pos n) = true
+fromMinusOne (negsuc zero) = true
+fromMinusOne (negsuc (suc n)) = false
+
+-- an open window of an obligation with bound b
+abbrev pub windowKept : ℕ → NodeState → Bool
+windowKept b st = bool.not (st .held) || (st .failed || (leb 1 (st .remaining) && leb (st .remaining) b))
+
+abbrev pub blamelessFits : ℕ → ℕ → NodeState → Bool
+blamelessFits form wanted st = eqb form wanted && isMinusOne (st .culprit)
+
+abbrev pub joinedFits : ℕ → ℕ → NodeState → Bool
+joinedFits form wanted st = eqb form wanted && fromMinusOne (st .culprit)
+
+abbrev pub owedFits : ℕ → ℕ → ℕ → NodeState → Bool
+owedFits b form bound st = eqb form 2 && (eqb bound b && (fromMinusOne (st .culprit) && windowKept b st))
+
+-- a node's entry, with the form and the bound that the monitor remembers, fits the node
+abbrev pub entryFits : MonNode → ℕ → ℕ → NodeState → Bool
+entryFits (RangeCheck s r) form bound st = blamelessFits form 0 st
+entryFits (DelayedCheck s t r) form bound st = blamelessFits form 1 st
+entryFits (Obligation b s t r) form bound st = owedFits b form bound st
+entryFits AndNode form bound st = joinedFits form 3 st
+entryFits OrNode form bound st = joinedFits form 4 st
+
+abbrev pub rowFits : Row → ℕ → ℕ → NodeState → Bool
+rowFits Unknown form bound st = false
+rowFits (Node n) form bound st = entryFits n form bound st
+
+-- n nodes from node k on
+unfoldable pub shapedFrom : List ℕ → ℕ → List ℕ → List ℕ → Memory → ℕ → ℕ → Bool
+shapedFrom nodes nfirst forms bounds mem k zero = true
+shapedFrom nodes nfirst forms bounds mem k (suc n) =
+    rowFits (rowOf nodes (nfirst + k)) (getD forms k 0) (getD bounds k 0) (get mem k) && shapedFrom nodes nfirst forms bounds mem (k + 1) n
