@@ -1,0 +1,172 @@
+-- The check over a book's lines: what its loop has found so far, and one law for each return.
+use mathlib.Core.Path.{_≡_, refl, sym, ap, ap₂, subst, _∙_}
+use mathlib.Core.Bool.{Bool, true, false, _&&_, not}
+use mathlib.Core.List.{List, [], _∷_, _++_}
+use mathlib.Core.Option.{Option, none, some}
+use Prim.Native.Nat.{ℕ, zero, suc, _+_, _-_, _*_, _^_, _≤_, _<_}
+use native.Mathlib.Omega.{arith}
+use native.Mathlib.Numerals.{add-one}
+use borrow.Author.Tests.{le-leb, lt-leb, eq-eqb, ne-eqb}
+use mir.Syntax.{w64}
+use mir.Val.{Fits}
+use lib.Dec.{eqb, leb}
+use lib.ListN.{length, getD, take, drop, length-drop, drop-of-length-le}
+use lib.Seq.{drop-drop, length-take-le}
+use Rattle.number.specs.Number.{pick}
+use Rattle.line.specs.Text.{lines, parts, Found}
+use Rattle.line.specs.Line.{Line, bad, rule, wrong-rule, node, wrong-node, step, wrong-step, parse}
+use Rattle.line.specs.Means.{means}
+use Rattle.line.specs.declared.line.Line as code
+use Rattle.line.proofs.Parts.{lines-next}
+use Rattle.book.specs.Book.{Book, empty, isNil, whole, Fault, numberOf, fault, add, Outcome, accepted, refused, unless, readOn, ended, read}
+use Rattle.book.specs.Checked.{checkedOf, Small, Holds, Agrees, TakesLine}
+use Rattle.book.specs.declared.state.State.{State}
+use Rattle.book.specs.declared.state.Taken.{Taken}
+use Rattle.book.specs.declared.state.Taken.the-variants.{Next, Faulty}
+use Rattle.book.specs.declared.check.Checked.{Checked}
+use Rattle.book.specs.declared.check.Checked.the-variants.{Good, Refused}
+use Rattle.book.proofs.States.{inside, outside}
+
+-- the lines before `at` are read: `line` of them, into a book that the state stands for
+pub record Run (text : List ℕ) (s : State) (at line : ℕ) : Type 0 where
+  pub book : Book
+  pub holds : Holds book s
+  pub same : readOn empty 0 (lines text) ≡ readOn book line (lines (drop at text))
+  pub near : at ≤ length text + 1
+  pub counted : line ≤ at
+  pub head : s .head ≤ at
+
+pub run-first : (text : List ℕ) (s : State) → Holds empty s → Run text s 0 0
+run-first text s h = record { book = empty; holds = h; same = refl; near = omega arith; counted = omega arith; head = omega (arith, h .head) }
+
+-- one line more of a text
+pub read-line : (b : Book) (k : ℕ) (text rest first : List ℕ) (at n : ℕ) → at < length text → rest ≡ drop at text → Found 10 rest n → first ≡ take n rest → readOn b k (lines (drop at text)) ≡ unless (fault b (parse first)) k (readOn (add (n + 1) b (parse first)) (k + 1) (lines (drop (at + (n + 1)) text)))
+unfolding readOn
+read-line b k text rest first at n h e f e′ =
+    let long : 1 ≤ length rest = subst (λ (l : List ℕ). 1 ≤ length l) (sym e) (omega (arith, length-drop at text)) in
+    let cut : lines rest ≡ take n rest ∷ lines (drop (n + 1) rest) = lines-next rest n f long in
+    let size : length first ≡ n = ap length e′ ∙ length-take-le n rest (f .inside) in
+    let go : drop (n + 1) rest ≡ drop (at + (n + 1)) text = ap (drop (n + 1)) e ∙ drop-drop (n + 1) at text in
+    let all : lines (drop at text) ≡ first ∷ lines (drop (at + (n + 1)) text) = ap lines (sym e) ∙ cut ∙ ap₂ _∷_ (sym e′) (ap lines go) in
+    rw (all, size) refl
+
+head-grows : (n : ℕ) (b : Book) (l : Line) → add n b l .head ≤ b .head + n
+unfolding add
+head-grows n b bad = omega arith
+head-grows n b (rule l k) = omega arith
+head-grows n b wrong-rule = omega arith
+head-grows n b (node op v) = omega arith
+head-grows n b wrong-node = omega arith
+head-grows n b (step s w) = omega arith
+head-grows n b wrong-step = omega arith
+
+next-inj : {s s′ : State} → Next s ≡ Next s′ → s ≡ s′
+next-inj e = cc
+
+faulty-inj : {k k′ : ℕ} → Faulty k ≡ Faulty k′ → k ≡ k′
+faulty-inj e = cc
+
+next-faulty : {s : State} {k : ℕ} {B : Type 0} → Next s ≡ Faulty k → B
+next-faulty e = let z : _≡_ {A = ℕ} 0 1 = cc in absurd (omega arith)
+
+module _ (text : List ℕ) (s : State) (at line n : ℕ) (rest first : List ℕ) (l : code.Line) (r : Taken) (v : Run text s at line) (h : at < length text) (e : rest ≡ drop at text) (f : Found 10 rest n) (e′ : first ≡ take n rest) (m : means first l ≡ parse first) (t : TakesLine s l (n + 1) r) where
+  agrees : Agrees (n + 1) (v .book) (parse first) (fault (v .book) (parse first)) r
+  agrees = subst (λ (p : Line). Agrees (n + 1) (v .book) p (fault (v .book) p) r) m (t .is first .is (v .book) (v .holds))
+
+  on : readOn empty 0 (lines text) ≡ unless (fault (v .book) (parse first)) line (readOn (add (n + 1) (v .book) (parse first)) (line + 1) (lines (drop (at + (n + 1)) text)))
+  on = v .same ∙ read-line (v .book) line text rest first at n h e f e′
+
+  pub turn-fault : (k : ℕ) → r ≡ Faulty k → Refused k (line + 1) ≡ checkedOf (readOn empty 0 (lines text))
+  turn-fault k q = sym (ap checkedOf on ∙ go (fault (v .book) (parse first)) agrees)
+    where
+      go : (o : Option Fault) → Agrees (n + 1) (v .book) (parse first) o r → checkedOf (unless o line (readOn (add (n + 1) (v .book) (parse first)) (line + 1) (lines (drop (at + (n + 1)) text)))) ≡ Refused k (line + 1)
+      go none a = next-faulty (sym (a .1) ∙ q)
+      go (some x) a = ap (λ (i : ℕ). Refused i (line + 1)) (faulty-inj (sym a ∙ q))
+
+  rest-short : n ≤ length text - at
+  rest-short = subst (λ (i : ℕ). n ≤ i) (ap length e ∙ length-drop at text) (f .inside)
+
+  pub turn-next : (s′ : State) → r ≡ Next s′ → Run text s′ (at + (n + 1)) (line + 1)
+  turn-next s′ q = go (fault (v .book) (parse first)) refl agrees
+    where
+      go : (o : Option Fault) → fault (v .book) (parse first) ≡ o → Agrees (n + 1) (v .book) (parse first) o r → Run text s′ (at + (n + 1)) (line + 1)
+      go none p a =
+          let u : a .0 ≡ s′ = next-inj (sym (a .1) ∙ q) in
+          let hd : s′ .head ≡ add (n + 1) (v .book) (parse first) .head = subst (λ (x : State). x .head ≡ add (n + 1) (v .book) (parse first) .head) u (a .2 .head) in
+          record {
+            book = add (n + 1) (v .book) (parse first);
+            holds = subst (Holds (add (n + 1) (v .book) (parse first))) u (a .2);
+            same = on ∙ ap (λ (x : Option Fault). unless x line (readOn (add (n + 1) (v .book) (parse first)) (line + 1) (lines (drop (at + (n + 1)) text)))) p;
+            near = omega (arith, rest-short);
+            counted = omega (arith, v .counted);
+            head = omega (arith, head-grows (n + 1) (v .book) (parse first), v .head, v .holds .head);
+          }
+      go (some x) p a = next-faulty (sym q ∙ a)
+
+module _ (text : List ℕ) (s : State) (at line : ℕ) (v : Run text s at line) where
+  pub run-unfinished : length text ≤ at → 0 < s .depth → Refused 10 line ≡ checkedOf (readOn empty 0 (lines text))
+  unfolding readOn parts
+  run-unfinished h d = sym (ap checkedOf (v .same) ∙ rw (drop-of-length-le text h, inside (v .book) s (v .holds) d) refl)
+
+  pub run-done : length text ≤ at → s .depth ≤ 0 → Good (s .rules) (s .nodes) (s .head) ≡ checkedOf (readOn empty 0 (lines text))
+  unfolding readOn parts
+  run-done h d = sym (ap checkedOf (v .same) ∙ rw (drop-of-length-le text h, outside (v .book) s (v .holds) d, v .holds .rules, v .holds .nodes, v .holds .head) refl)
+
+  pub run-small : Small (s .depth) (s .bits)
+  run-small = v .holds .small
+
+  module _ (rest : List ℕ) (n : ℕ) (h : at < length text) (short : length text ≤ 65535) (e : rest ≡ drop at text) (f : Found 10 rest n) where
+    found-short : n ≤ length text - at
+    found-short = subst (λ (i : ℕ). n ≤ i) (ap length e ∙ length-drop at text) (f .inside)
+
+    pub run-room : s .head + (n + 1) < 2 ^ 63
+    run-room = omega (arith, found-short, v .head)
+
+    pub run-found : n ≤ length rest
+    run-found = f .inside
+
+    pub run-add : Fits w64 (n + 1)
+    run-add = record { fits = omega (arith, found-short) }
+
+    pub run-at : Fits w64 (at + (n + 1))
+    run-at = record { fits = omega (arith, found-short) }
+
+    pub run-line : Fits w64 (line + 1)
+    run-line = record { fits = omega (arith, v .counted) }
+
+    pub run-falls : length text - (at + (n + 1)) < length text - at
+    run-falls = omega (arith, found-short)
+
+-- ---- the end of a text
+pub ended-empty : (t : List ℕ) → length t ≡ 0 → true ≡ ended t
+unfolding ended
+ended-empty [] h = refl
+ended-empty (c ∷ r) h = absurd (omega arith)
+
+last-byte : (t : List ℕ) → (length t ≡ 0 → ⊥) → ended t ≡ eqb (getD t (length t - 1) 0) 10
+unfolding ended
+last-byte [] h = absurd (h refl)
+last-byte (c ∷ []) h = refl
+last-byte (c ∷ d ∷ r) h =
+    let z : suc (length (d ∷ r) - 1) ≡ length (c ∷ d ∷ r) - 1 = omega arith in
+    last-byte (d ∷ r) (λ (y : length (d ∷ r) ≡ 0). omega arith) ∙ ap (λ (i : ℕ). eqb (getD (c ∷ d ∷ r) i 0) 10) z
+
+pub ended-lf : (t : List ℕ) → (length t ≡ 0 → ⊥) → getD t (length t - 1) 0 ≡ 10 → true ≡ ended t
+ended-lf t h e = sym (last-byte t h ∙ eq-eqb _ _ e)
+
+pub unended : (t : List ℕ) → (length t ≡ 0 → ⊥) → (getD t (length t - 1) 0 ≡ 10 → ⊥) → false ≡ ended t
+unended t h e = sym (last-byte t h ∙ ne-eqb _ _ e)
+
+-- ---- the whole
+module _ (t : List ℕ) where
+  pub check-long : 65535 < length t → Refused 3 0 ≡ checkedOf (read t)
+  unfolding read
+  check-long h = rw (lt-leb (length t) 65535 h) refl
+
+  pub check-ended : (e : Bool) (r : Checked) → length t ≤ 65535 → e ≡ ended t → e ≡ true → r ≡ checkedOf (readOn empty 0 (lines t)) → r ≡ checkedOf (read t)
+  unfolding read
+  check-ended e r h p q c = rw (le-leb (length t) 65535 h, ← p, q) c
+
+  pub check-unended : (e : Bool) → length t ≤ 65535 → e ≡ ended t → e ≡ false → Refused 4 0 ≡ checkedOf (read t)
+  unfolding read
+  check-unended e h p q = rw (le-leb (length t) 65535 h, ← p, q) refl

@@ -1,0 +1,371 @@
+-- An accepted book's rules are formulas: what holds of the rules read so far, and the proof of the theorem of RulesOfBook.antt.
+use mathlib.Core.Path.{_≡_, refl, sym, ap, ap₂, subst, _∙_}
+use mathlib.Core.Bool.{Bool, true, false, _&&_, not}
+use mathlib.Core.List.{List, [], _∷_, _++_, append-assoc, append-nil}
+use mathlib.Core.Option.{Option, none, some}
+use Prim.Native.Nat.{ℕ, zero, suc, _+_, _-_, _*_, _^_, _≤_, _<_}
+use native.Mathlib.Omega.{arith}
+use native.Mathlib.Numerals.{add-one}
+use borrow.Author.Tests.{ltb-true}
+use lib.Dec.{eqb, leb, ltb}
+use lib.ListN.{length, getD, take, drop, length-append, length-drop, List·getD-append}
+use lib.Seq.{drop-cons, drop-append-le, take-append-le, drop-append-seam, length-take-le, take-length}
+use Rattle.number.specs.Number.{pick, decimalOf, hexOf}
+use Rattle.number.specs.declared.Number.{Number}
+use Rattle.number.specs.declared.Number.the-variants.{Value, Wrong}
+use Rattle.formula.specs.Tree.{Tree, unknown, size, depth, prefix, all}
+use Rattle.formula.specs.Spells.{run}
+use Rattle.formula.specs.Formula.{Formula, Node, node}
+use Rattle.formula.specs.Table.{nodeAt, inWord, ruleOf, Rule}
+use Rattle.formula.proofs.Trees.{run-spells, prefix-length}
+use Rattle.formula.proofs.Rules.{rule-of}
+use Rattle.line.specs.Text.{lines, fields, eqbs}
+use Rattle.line.specs.Word.{Entry, wordOf, lookup, vocabulary, fieldCount}
+use Rattle.line.specs.Line.{Line, bad, rule, wrong-rule, wrong-node, step, wrong-step, ruleKind, ruleLine, atomLine, boundLine, stepLine, content, ofFields, parse}
+use Rattle.line.specs.Line as spec
+use Rattle.line.specs.declared.word.Word.{Word}
+use Rattle.line.specs.declared.word.Word.the-variants as word
+use Rattle.book.specs.Book.{Book, empty, isNil, whole, headOf, lastOf, bump, spend, Fault, fault, add, Outcome, accepted, refused, unless, readOn, read}
+use Rattle.reader.specs.Tables.{Tables, over, written, roomy, readInto}
+use Rattle.reader.specs.Answer.{Roomy}
+use Rattle.reader.proofs.Sounds.{Passed, passed, rules-left, nodes-left, node-inside, Sound, sound-empty, sound-add}
+use Rattle.reader.proofs.Runs.{accepted-lines, accepted-inj, unless-none, roomy-is}
+use Rattle.book_laws.proofs.Formulas.{Formulated, Opens, NodeOk, opens-first, opens-done, opens-node}
+
+-- ---- a node's line
+abbrev NodeOf : Line → Type 0
+NodeOf bad = Unit
+NodeOf (rule l k) = Unit
+NodeOf wrong-rule = Unit
+NodeOf (spec.node op v) = NodeOk op v
+NodeOf wrong-node = Unit
+NodeOf (step s w) = Unit
+NodeOf wrong-step = Unit
+
+abbrev WordOk : Word → Type 0
+WordOk (word.Atom op) = op < 3
+WordOk (word.Plain op) = (3 ≤ op) × (op < 13)
+WordOk (word.Bounded op) = (3 ≤ op) × (op < 13)
+WordOk word.Rule = Unit
+WordOk word.Step = Unit
+WordOk word.Unknown = Unit
+
+abbrev AllOk : List Entry → Type 0
+AllOk [] = Unit
+AllOk (e ∷ es) = WordOk (e .word) × AllOk es
+
+lookup-ok : (es : List Entry) (f : List ℕ) → AllOk es → WordOk (lookup es f)
+unfolding lookup
+lookup-ok [] f h = tt
+lookup-ok (e ∷ es) f h = go (eqbs f (e .spelling)) (lookup es f) (lookup-ok es f (h .1))
+  where
+    go : (t : Bool) (w : Word) → WordOk w → WordOk (pick t (e .word) w)
+    go true w k = h .0
+    go false w k = k
+
+vocabulary-ok : AllOk vocabulary
+vocabulary-ok = (omega arith, (omega arith, (omega arith, ((omega arith, omega arith), ((omega arith, omega arith), ((omega arith, omega arith), ((omega arith, omega arith), ((omega arith, omega arith), ((omega arith, omega arith), ((omega arith, omega arith), ((omega arith, omega arith), ((omega arith, omega arith), ((omega arith, omega arith), (tt, (tt, tt)))))))))))))))
+
+pick-node : (t : Bool) (a b : Line) → NodeOf a → NodeOf b → NodeOf (pick t a b)
+pick-node true a b x y = x
+pick-node false a b x y = y
+
+content-node : (w : Word) (f g : List ℕ) → WordOk w → NodeOf (content w f g)
+unfolding content ruleLine atomLine boundLine stepLine
+content-node (word.Atom op) f g k = go (decimalOf f)
+  where
+    small : (v : ℕ) (t : Bool) → ltb v 64 ≡ t → NodeOf (pick t (spec.node op v) wrong-node)
+    small v true e = record { known = omega arith; signals = λ _. ltb-true v 64 e }
+    small v false e = tt
+
+    go : (n : Number) → NodeOf (atomLine op n)
+    go Wrong = tt
+    go (Value v) = small v (ltb v 64) refl
+content-node (word.Plain op) f g k = record { known = k .1; signals = λ h. omega (arith, k .0) }
+content-node (word.Bounded op) f g k = go (decimalOf f)
+  where
+    go : (n : Number) → NodeOf (boundLine op n)
+    go Wrong = tt
+    go (Value v) = record { known = k .1; signals = λ h. omega (arith, k .0) }
+content-node word.Rule f g k = pick-node (eqb (ruleKind f g) 2) wrong-rule (rule f (ruleKind f g)) tt tt
+content-node word.Step f g k = go (decimalOf f) (hexOf g)
+  where
+    go : (n m : Number) → NodeOf (stepLine n m)
+    go Wrong m = tt
+    go (Value s) Wrong = tt
+    go (Value s) (Value w) = pick-node (ltb s (2 ^ 63)) (step s w) wrong-step tt tt
+content-node word.Unknown f g k = tt
+
+parse-node : (l : List ℕ) → NodeOf (parse l)
+unfolding parse ofFields wordOf
+parse-node l =
+    pick-node (eqb (length (fields l)) (fieldCount (wordOf (getD (fields l) 0 []))))
+    (content (wordOf (getD (fields l) 0 [])) (getD (fields l) 1 []) (getD (fields l) 2 [])) bad
+    (content-node (wordOf (getD (fields l) 0 [])) (getD (fields l) 1 []) (getD (fields l) 2 []) (lookup-ok vocabulary (getD (fields l) 0 []) vocabulary-ok)) tt
+
+-- ---- the formula table as a list of nodes
+pub toks : List ℕ → List ℕ → List Node
+toks [] nums = []
+toks (op ∷ ops) [] = []
+toks (op ∷ ops) (v ∷ nums) = node op v ∷ toks ops nums
+
+toks-long : (ops nums : List ℕ) → length nums ≡ length ops → length (toks ops nums) ≡ length ops
+unfolding toks
+toks-long [] nums e = refl
+toks-long (op ∷ ops) [] e = absurd (omega arith)
+toks-long (op ∷ ops) (v ∷ nums) e = ap suc (toks-long ops nums (omega arith))
+
+toks-snoc : (ops nums : List ℕ) (op v : ℕ) → length nums ≡ length ops → toks (ops ++ op ∷ []) (nums ++ v ∷ []) ≡ toks ops nums ++ node op v ∷ []
+unfolding toks
+toks-snoc [] [] op v e = refl
+toks-snoc [] (y ∷ nums) op v e = absurd (omega arith)
+toks-snoc (x ∷ ops) [] op v e = absurd (omega arith)
+toks-snoc (x ∷ ops) (y ∷ nums) op v e = ap (node x y ∷_) (toks-snoc ops nums op v (omega arith))
+
+toks-at : (ops nums : List ℕ) (i : ℕ) → length nums ≡ length ops → i < length ops → getD (toks ops nums) i unknown ≡ node (getD ops i 0) (getD nums i 0)
+unfolding toks
+toks-at [] nums i e h = absurd (omega arith)
+toks-at (op ∷ ops) [] i e h = absurd (omega arith)
+toks-at (op ∷ ops) (v ∷ nums) zero e h = refl
+toks-at (op ∷ ops) (v ∷ nums) (suc i) e h = toks-at ops nums i (omega arith) (omega arith)
+
+run-toks : (ops nums x y : List ℕ) (i n : ℕ) → length nums ≡ length ops → i + n ≤ length ops → run (nodeAt (ops ++ x) (nums ++ y)) i n ≡ take n (drop i (toks ops nums))
+unfolding run nodeAt
+run-toks ops nums x y i zero e h = refl
+run-toks ops nums x y i (suc n) e h =
+    let inside : i < length ops = omega arith in
+    let long : i < length (toks ops nums) = subst (λ (k : ℕ). i < k) (sym (toks-long ops nums e)) inside in
+    ap₂ _∷_
+    (ap₂ node (List·getD-append ops x 0 i inside) (List·getD-append nums y 0 i (subst (λ (k : ℕ). i < k) (sym e) inside)) ∙ sym (toks-at ops nums i e inside))
+    (run-toks ops nums x y (i + 1) n e (omega arith) ∙ ap (λ (k : ℕ). take n (drop k (toks ops nums))) (add-one i))
+    ∙ sym (ap (take (suc n)) (drop-cons (toks ops nums) i unknown long))
+
+-- ---- the rules that are whole
+pub record IsRule (ts : List Node) (first count : ℕ) : Type 0 where
+  pub few : count ≤ 256
+  pub inside : first + count ≤ length ts
+  pub formulated : Formulated (take count (drop first ts))
+
+pub AllRules : List Node → List ℕ → List ℕ → Type 0
+AllRules ts [] [] = Unit
+AllRules ts [] (c ∷ cs) = ⊥
+AllRules ts (f ∷ fs) [] = ⊥
+AllRules ts (f ∷ fs) (c ∷ cs) = IsRule ts f c × AllRules ts fs cs
+
+is-more : (ts more : List Node) (f c : ℕ) → IsRule ts f c → IsRule (ts ++ more) f c
+is-more ts more f c r = record {
+  few = r .few;
+  inside = omega (arith, r .inside, length-append ts more);
+  formulated = subst Formulated (sym (ap (take c) (drop-append-le f ts more (omega (arith, r .inside))) ∙ take-append-le c (drop f ts) more (omega (arith, r .inside, length-drop f ts)))) (r .formulated);
+}
+
+all-more : (ts more : List Node) (fs cs : List ℕ) → AllRules ts fs cs → AllRules (ts ++ more) fs cs
+unfolding AllRules
+all-more ts more [] [] a = tt
+all-more ts more [] (c ∷ cs) a = a
+all-more ts more (f ∷ fs) [] a = a
+all-more ts more (f ∷ fs) (c ∷ cs) a = (is-more ts more f c (a .0), all-more ts more fs cs (a .1))
+
+all-snoc : (ts : List Node) (fs cs : List ℕ) (f c : ℕ) → AllRules ts fs cs → IsRule ts f c → AllRules ts (fs ++ f ∷ []) (cs ++ c ∷ [])
+unfolding AllRules
+all-snoc ts [] [] f c a r = (r, tt)
+all-snoc ts [] (d ∷ cs) f c a r = absurd a
+all-snoc ts (g ∷ fs) [] f c a r = absurd a
+all-snoc ts (g ∷ fs) (d ∷ cs) f c a r = (a .0, all-snoc ts fs cs f c (a .1) r)
+
+all-at : (ts : List Node) (fs cs : List ℕ) (k : ℕ) → AllRules ts fs cs → k < length fs → IsRule ts (getD fs k 0) (getD cs k 0)
+unfolding AllRules
+all-at ts [] cs k a h = absurd (omega arith)
+all-at ts (f ∷ fs) [] k a h = absurd a
+all-at ts (f ∷ fs) (c ∷ cs) zero a h = a .0
+all-at ts (f ∷ fs) (c ∷ cs) (suc k) a h = all-at ts fs cs k (a .1) (omega arith)
+
+-- ---- the book so far: whole rules, and at most one in hand
+abbrev nodesOf : Book → List Node
+nodesOf b = toks (b .ops) (b .nums)
+
+pub record Whole (b : Book) : Type 0 where
+  pub none-due : b .due ≡ []
+  pub rules : AllRules (nodesOf b) (b .firsts) (b .counts)
+
+pub record InHand (b : Book) : Type 0 where
+  pub some-due : isNil (b .due) ≡ false
+  pub firsts : List ℕ
+  pub counts : List ℕ
+  pub first : ℕ
+  pub own : ℕ
+  pub firsts-is : b .firsts ≡ firsts ++ first ∷ []
+  pub counts-is : b .counts ≡ counts ++ own ∷ []
+  pub ends : first + own ≡ length (b .ops)
+  pub rules : AllRules (nodesOf b) firsts counts
+  pub opens : Opens (drop first (nodesOf b)) (b .due)
+
+abbrev Ruled : Book → Type 0
+Ruled b = mathlib.Core.Logic._⊎_ (Whole b) (InHand b)
+
+ruled-empty : Ruled empty
+unfolding AllRules toks
+ruled-empty = mathlib.Core.Logic.inl (record { none-due = refl; rules = tt })
+
+pub bump-snoc : (cs : List ℕ) (c : ℕ) → bump (cs ++ c ∷ []) ≡ cs ++ suc c ∷ []
+unfolding bump
+bump-snoc [] c = refl
+bump-snoc (a ∷ []) c = refl
+bump-snoc (a ∷ b ∷ r) c = ap (a ∷_) (bump-snoc (b ∷ r) c)
+
+last-of : (cs : List ℕ) (c : ℕ) → lastOf (cs ++ c ∷ []) ≡ c
+last-of = Rattle.book.proofs.States.last-snoc
+
+false-true : {A : Type 0} → true ≡ false → A
+false-true e = let z : _≡_ {A = ℕ} 0 1 = cc in absurd (omega arith)
+
+whole-nil : (b : Book) → isNil (b .due) ≡ true → Ruled b → Whole b
+whole-nil b h (mathlib.Core.Logic.inl w) = w
+whole-nil b h (mathlib.Core.Logic.inr i) = false-true (sym h ∙ i .some-due)
+
+hand-in : (b : Book) → isNil (b .due) ≡ false → Ruled b → InHand b
+hand-in b h (mathlib.Core.Logic.inl w) = false-true (ap isNil (sym (w .none-due)) ∙ h)
+hand-in b h (mathlib.Core.Logic.inr i) = i
+
+rule-ruled : (n : ℕ) (b : Book) (l : List ℕ) (k : ℕ) → Sound b → Whole b → Ruled (add n b (rule l k))
+unfolding add
+rule-ruled n b l k s w = mathlib.Core.Logic.inr (record {
+  some-due = refl;
+  firsts = b .firsts;
+  counts = b .counts;
+  first = length (b .ops);
+  own = 0;
+  firsts-is = refl;
+  counts-is = refl;
+  ends = omega arith;
+  rules = w .rules;
+  opens = subst (λ (x : List Node). Opens x (1 ∷ [])) (sym (drop-all (nodesOf b) (length (b .ops)) (toks-long (b .ops) (b .nums) (s .nums-long)))) opens-first;
+})
+  where
+    drop-all : (x : List Node) (m : ℕ) → length x ≡ m → drop m x ≡ []
+    drop-all x m e = lib.ListN.drop-of-length-le x {i = m} (omega arith)
+
+-- the due places are not empty: the first one
+split-due : (d : List ℕ) → isNil d ≡ false → (h : ℕ) × (r : List ℕ) × (d ≡ h ∷ r)
+split-due [] e = false-true e
+split-due (h ∷ r) e = (h, r, refl)
+
+node-ruled : (n : ℕ) (b : Book) (op v : ℕ) → Sound b → InHand b → NodeOk op v → Passed b (spec.node op v) → Ruled (add n b (spec.node op v))
+unfolding add
+node-ruled n b op v s i ok p =
+    let (lo, less, deep) = nodes-left b op v p in
+    let (d, r, e) = split-due (b .due) (i .some-due) in
+    let low : d ≤ 64 = subst (λ (x : List ℕ). headOf x ≤ 64) e deep in
+    let ts : List Node = nodesOf b in
+    let long : length ts ≡ length (b .ops) = toks-long (b .ops) (b .nums) (s .nums-long) in
+    let next : toks (b .ops ++ op ∷ []) (b .nums ++ v ∷ []) ≡ ts ++ node op v ∷ [] = toks-snoc (b .ops) (b .nums) op v (s .nums-long) in
+    let cut : drop (i .first) (ts ++ node op v ∷ []) ≡ drop (i .first) ts ++ node op v ∷ [] = drop-append-le (i .first) ts (node op v ∷ []) (omega (arith, i .ends)) in
+    let opened : Opens (drop (i .first) ts ++ node op v ∷ []) (spend op (d ∷ r)) = opens-node (drop (i .first) ts) d r op v (subst (Opens (drop (i .first) ts)) e (i .opens)) low ok in
+    let opens : Opens (drop (i .first) (toks (b .ops ++ op ∷ []) (b .nums ++ v ∷ []))) (spend op (b .due)) = subst (λ (x : List ℕ). Opens (drop (i .first) (toks (b .ops ++ op ∷ []) (b .nums ++ v ∷ []))) (spend op x)) (sym e) (subst (λ (x : List Node). Opens (drop (i .first) x) (spend op (d ∷ r))) (sym next) (subst (λ (x : List Node). Opens x (spend op (d ∷ r))) (sym cut) opened)) in
+    let rules : AllRules (toks (b .ops ++ op ∷ []) (b .nums ++ v ∷ [])) (i .firsts) (i .counts) = subst (λ (x : List Node). AllRules x (i .firsts) (i .counts)) (sym next) (all-more ts (node op v ∷ []) (i .firsts) (i .counts) (i .rules)) in
+    let counts : bump (b .counts) ≡ i .counts ++ suc (i .own) ∷ [] = ap bump (i .counts-is) ∙ bump-snoc (i .counts) (i .own) in
+    let own : i .own < 256 = subst (λ (x : ℕ). x < 256) (ap lastOf (i .counts-is) ∙ last-of (i .counts) (i .own)) lo in
+    let size : length (b .ops ++ op ∷ []) ≡ length (b .ops) + 1 = length-append (b .ops) (op ∷ []) in
+    let new-long : length (toks (b .ops ++ op ∷ []) (b .nums ++ v ∷ [])) ≡ length (b .ops) + 1 = ap length next ∙ length-append ts (node op v ∷ []) ∙ ap (λ (x : ℕ). x + 1) long in
+    go (add n b (spec.node op v)) (i .first) (i .own) (i .firsts) (i .counts) (spend op (b .due)) refl (i .firsts-is) counts (size ∙ omega (arith, i .ends)) own (new-long ∙ omega (arith, i .ends)) rules opens
+  where
+    go : (c : Book) (first own : ℕ) (fs cs due : List ℕ) → c .due ≡ due → c .firsts ≡ fs ++ first ∷ [] → c .counts ≡ cs ++ suc own ∷ [] → length (c .ops) ≡ first + suc own → own < 256 → length (nodesOf c) ≡ first + suc own → AllRules (nodesOf c) fs cs → Opens (drop first (nodesOf c)) due → Ruled c
+    go c first own fs cs [] d f k l o m a w = mathlib.Core.Logic.inl (record {
+      none-due = d;
+      rules = subst (λ (x : List ℕ). AllRules (nodesOf c) x (c .counts)) (sym f) (subst (λ (x : List ℕ). AllRules (nodesOf c) (fs ++ first ∷ []) x) (sym k) (all-snoc (nodesOf c) fs cs first (suc own) a (record {
+        few = o;
+        inside = omega arith;
+        formulated = subst Formulated (sym (lib.Seq.take-all (suc own) (drop first (nodesOf c)) (omega (arith, length-drop first (nodesOf c))))) (opens-done (drop first (nodesOf c)) w);
+      })));
+    })
+    go c first own fs cs (h ∷ r) d f k l o m a w = mathlib.Core.Logic.inr (record {
+      some-due = ap isNil d;
+      firsts = fs;
+      counts = cs;
+      first = first;
+      own = suc own;
+      firsts-is = f;
+      counts-is = k;
+      ends = sym l;
+      rules = a;
+      opens = subst (Opens (drop first (nodesOf c))) (sym d) w;
+    })
+
+ruled-by : (n : ℕ) (b : Book) (l : Line) → Sound b → Ruled b → NodeOf l → Passed b l → Ruled (add n b l)
+unfolding add Rattle.book.specs.Book.stands
+ruled-by n b bad s r k p = r
+ruled-by n b (rule l m) s r k p = rule-ruled n b l m s (whole-nil b (Rattle.reader.proofs.Sounds.both {a = whole b} {b = isNil (b .steps)} (p .here) .0) r)
+ruled-by n b wrong-rule s r k p = r
+ruled-by n b (spec.node op v) s r k p = node-ruled n b op v s (hand-in b (node-inside b op v p) r) k p
+ruled-by n b wrong-node s r k p = r
+ruled-by n b (step u w) s r k p = step-ruled b n u w r
+  where
+    step-ruled : (b : Book) (n u w : ℕ) → Ruled b → Ruled (add n b (step u w))
+    step-ruled b n u w (mathlib.Core.Logic.inl x) = mathlib.Core.Logic.inl (record { none-due = x .none-due; rules = x .rules })
+    step-ruled b n u w (mathlib.Core.Logic.inr x) = mathlib.Core.Logic.inr (record { some-due = x .some-due; firsts = x .firsts; counts = x .counts; first = x .first; own = x .own; firsts-is = x .firsts-is; counts-is = x .counts-is; ends = x .ends; rules = x .rules; opens = x .opens })
+ruled-by n b wrong-step s r k p = r
+
+-- ---- the fold
+pub record Done (c : Book) : Type 0 where
+  pub sound : Sound c
+  pub rules : AllRules (nodesOf c) (c .firsts) (c .counts)
+
+accepted-refused : {B : Type 0} {b : Book} {n k : ℕ} → refused n k ≡ accepted b → B
+accepted-refused e = let z : _≡_ {A = ℕ} 0 1 = cc in absurd (omega arith)
+
+ruled-all : (b c : Book) (k : ℕ) (ls : List (List ℕ)) → Sound b → Ruled b → readOn b k ls ≡ accepted c → Done c
+unfolding readOn
+ruled-all b c k [] s r e = go (whole b) refl e
+  where
+    go : (t : Bool) → whole b ≡ t → pick t (accepted b) (refused 10 k) ≡ accepted c → Done c
+    go true w e = subst Done (accepted-inj e) (record { sound = s; rules = whole-nil b w r .rules })
+    go false w e = accepted-refused e
+ruled-all b c k (l ∷ ls) s r e =
+    let (o, a) = unless-none (fault b (parse l)) k _ c e in
+    ruled-all (add (length l + 1) b (parse l)) c (k + 1) ls (sound-add (length l + 1) b l s o) (ruled-by (length l + 1) b (parse l) s r (parse-node l) (passed b (parse l) o)) a
+
+pub accepted-done : (text : List ℕ) (b : Book) → read text ≡ accepted b → Done b
+accepted-done text b e = ruled-all empty b 0 (lines text) sound-empty ruled-empty (accepted-lines text b e)
+
+-- ---- in the tables
+over-at : (xs l : List ℕ) (k : ℕ) → k < length xs → getD (over xs l) k 0 ≡ getD xs k 0
+unfolding over
+over-at xs l k h = List·getD-append xs (drop (length xs) l) 0 k h
+
+into-accepted : (text : List ℕ) (t : Tables) (b : Book) → readInto text t ≡ accepted b → (roomy t ≡ true) × (read text ≡ accepted b)
+unfolding readInto
+into-accepted text t b e = go (roomy t) e
+  where
+    go : (m : Bool) → pick m (read text) (refused 1 0) ≡ accepted b → (m ≡ true) × (read text ≡ accepted b)
+    go true e = (refl, e)
+    go false e = accepted-refused e
+
+pub rules-of-book : (text : List ℕ) (t : Tables) (b : Book) → readInto text t ≡ accepted b → (k : ℕ) → k < length (b .labels) → (f : Formula) × (ruleOf (written b t .ops) (written b t .nums) (getD (written b t .firsts) k 0) (getD (written b t .counts) k 0) ≡ some f)
+unfolding written over
+rules-of-book text t b e k h =
+    let (m, a) = into-accepted text t b e in
+    let room : Roomy t = roomy-is t m in
+    let d : Done b = accepted-done text b a in
+    let s : Sound b = d .sound in
+    let in-firsts : k < length (b .firsts) = subst (λ (n : ℕ). k < n) (sym (s .firsts-long)) h in
+    let in-counts : k < length (b .counts) = subst (λ (n : ℕ). k < n) (sym (s .counts-long)) h in
+    let first-is : getD (over (b .firsts) (t .firsts)) k 0 ≡ getD (b .firsts) k 0 = over-at (b .firsts) (t .firsts) k in-firsts in
+    let count-is : getD (over (b .counts) (t .counts)) k 0 ≡ getD (b .counts) k 0 = over-at (b .counts) (t .counts) k in-counts in
+    let u : IsRule (nodesOf b) (getD (b .firsts) k 0) (getD (b .counts) k 0) = all-at (nodesOf b) (b .firsts) (b .counts) k (d .rules) in-firsts in
+    let first : ℕ = getD (b .firsts) k 0 in
+    let count : ℕ = getD (b .counts) k 0 in
+    let f : Formula = u .formulated .formula in
+    let long : length (nodesOf b) ≡ length (b .ops) = toks-long (b .ops) (b .nums) (s .nums-long) in
+    let inside : first + count ≤ length (b .ops) = subst (λ (n : ℕ). first + count ≤ n) long (u .inside) in
+    let ran : run (nodeAt (over (b .ops) (t .ops)) (over (b .nums) (t .nums))) first count ≡ prefix f = run-toks (b .ops) (b .nums) (drop (length (b .ops)) (t .ops)) (drop (length (b .nums)) (t .nums)) first count (s .nums-long) inside ∙ u .formulated .is in
+    let sized : size f ≡ count = sym (prefix-length f) ∙ ap length (sym (u .formulated .is)) ∙ length-take-le count (drop first (nodesOf b)) (omega (arith, length-drop first (nodesOf b), u .inside)) in
+    let r : Rule (over (b .ops) (t .ops)) (over (b .nums) (t .nums)) first count f = record {
+      few = u .few;
+      in-ops = omega (arith, length-append (b .ops) (drop (length (b .ops)) (t .ops)));
+      in-nums = omega (arith, length-append (b .nums) (drop (length (b .nums)) (t .nums)), s .nums-long);
+      spells = run-spells (nodeAt (over (b .ops) (t .ops)) (over (b .nums) (t .nums))) first f (ap (run (nodeAt (over (b .ops) (t .ops)) (over (b .nums) (t .nums))) first) sized ∙ ran);
+      covers = sized;
+      shallow = u .formulated .shallow;
+      in-word = u .formulated .in-word;
+    } in
+    (f, ap₂ (ruleOf (over (b .ops) (t .ops)) (over (b .nums) (t .nums))) first-is count-is ∙ rule-of (over (b .ops) (t .ops)) (over (b .nums) (t .nums)) first count f r)

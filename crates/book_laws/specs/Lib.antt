@@ -1,0 +1,2 @@
+-- The terms of the theorems about books.
+pub mod Write

@@ -1,0 +1,314 @@
+// Reads each stored book of data/ into tables that hold a mark at every place, and prints the answer, what the tables hold, whether every
+// place past the book keeps its mark, and the steps.
+use libc::STDOUT_FILENO;
+use reader::read::Answer;
+use reader::read::read_book;
+use reader::steps::StepRead;
+use reader::steps::next_step;
+
+fn put(s: &[u8]) {
+    io::write_all(STDOUT_FILENO, s);
+}
+
+// A number behind a tab.
+fn show(n: u64) {
+    put(b"\t");
+    io::print_decimal(STDOUT_FILENO, n);
+}
+
+fn wide(b: u8) -> u64 {
+    b as u64
+}
+
+fn show_size(n: usize) {
+    show(n as u64);
+}
+
+// Whether every place from `from` on holds its mark.
+fn kept_bytes(s: &[u8], from: usize, mark: u8) -> bool {
+    let mut i = from;
+    while i < s.len() {
+        if s[i] != mark {
+            return false;
+        }
+        i += 1;
+    }
+    true
+}
+
+fn kept_sizes(s: &[usize], from: usize) -> bool {
+    let mut i = from;
+    while i < s.len() {
+        if s[i] != 7 {
+            return false;
+        }
+        i += 1;
+    }
+    true
+}
+
+fn kept_words(s: &[u64], from: usize) -> bool {
+    let mut i = from;
+    while i < s.len() {
+        if s[i] != 7 {
+            return false;
+        }
+        i += 1;
+    }
+    true
+}
+
+fn kept_labels(s: &[u8], rules: usize) -> bool {
+    if 64 < rules {
+        return false;
+    }
+    kept_bytes(s, 32 * rules, 46)
+}
+
+fn told(kept: bool) {
+    if kept {
+        put(b" kept");
+    } else {
+        put(b" LOST");
+    }
+}
+
+// One rule: its 32 bytes of label, its length, kind, first place and count.
+fn show_rule(
+    labels: &[u8],
+    lens: &[usize],
+    kinds: &[u8],
+    firsts: &[usize],
+    counts: &[usize],
+    i: usize,
+) {
+    if 64 <= i {
+        return;
+    }
+    let a = 32 * i;
+    let e = a + 32;
+    if labels.len() < e {
+        return;
+    }
+    put(b"rule ");
+    put(&labels[a..e]);
+    if lens.len() <= i {
+        return;
+    }
+    show_size(lens[i]);
+    if kinds.len() <= i {
+        return;
+    }
+    show(wide(kinds[i]));
+    if firsts.len() <= i {
+        return;
+    }
+    show_size(firsts[i]);
+    if counts.len() <= i {
+        return;
+    }
+    show_size(counts[i]);
+    put(b"\n");
+}
+
+fn show_rules(
+    labels: &[u8],
+    lens: &[usize],
+    kinds: &[u8],
+    firsts: &[usize],
+    counts: &[usize],
+    n: usize,
+) {
+    let mut i: usize = 0;
+    while i < n {
+        show_rule(labels, lens, kinds, firsts, counts, i);
+        i += 1;
+    }
+}
+
+fn show_node(ops: &[u8], nums: &[u64], i: usize) {
+    if ops.len() <= i {
+        return;
+    }
+    if nums.len() <= i {
+        return;
+    }
+    put(b"node");
+    show(wide(ops[i]));
+    show(nums[i]);
+    put(b"\n");
+}
+
+fn show_nodes(ops: &[u8], nums: &[u64], n: usize) {
+    let mut i: usize = 0;
+    while i < n {
+        show_node(ops, nums, i);
+        i += 1;
+    }
+}
+
+// The steps from a place on, at most so many.
+fn show_steps(text: &[u8], from: usize) {
+    let mut at = from;
+    let mut left: usize = 100;
+    while 0 < left {
+        match next_step(text, at) {
+            StepRead::End => return,
+            StepRead::Step { step, truths, next } => {
+                put(b"step");
+                show(step);
+                show(truths);
+                put(b"\n");
+                at = next;
+                left -= 1;
+            }
+        }
+    }
+}
+
+// The answer, and what the tables hold.
+fn report(
+    text: &[u8],
+    labels: &[u8],
+    lens: &[usize],
+    kinds: &[u8],
+    firsts: &[usize],
+    counts: &[usize],
+    ops: &[u8],
+    nums: &[u64],
+    answer: Answer,
+) {
+    match answer {
+        Answer::Refused { number, line } => {
+            put(b" refused");
+            show(number as u64);
+            show_size(line);
+            told(kept_bytes(labels, 0, 46));
+            told(kept_sizes(lens, 0));
+            told(kept_bytes(kinds, 0, 7));
+            told(kept_sizes(firsts, 0));
+            told(kept_sizes(counts, 0));
+            told(kept_bytes(ops, 0, 7));
+            told(kept_words(nums, 0));
+            put(b"\n");
+        }
+        Answer::Read {
+            rules,
+            nodes,
+            steps_at,
+        } => {
+            put(b" read");
+            show_size(rules);
+            show_size(nodes);
+            show_size(steps_at);
+            told(kept_labels(labels, rules));
+            told(kept_sizes(lens, rules));
+            told(kept_bytes(kinds, rules, 7));
+            told(kept_sizes(firsts, rules));
+            told(kept_sizes(counts, rules));
+            told(kept_bytes(ops, nodes, 7));
+            told(kept_words(nums, nodes));
+            put(b"\n");
+            show_rules(labels, lens, kinds, firsts, counts, rules);
+            show_nodes(ops, nums, nodes);
+            show_steps(text, steps_at);
+        }
+    }
+}
+
+// A text read into tables of a given size.
+fn read_text(text: &[u8]) {
+    let mut labels = [46u8; 2050];
+    let mut lens = [7usize; 66];
+    let mut kinds = [7u8; 65];
+    let mut firsts = [7usize; 64];
+    let mut counts = [7usize; 70];
+    let mut ops = [7u8; 1030];
+    let mut nums = [7u64; 1024];
+    let answer = read_book(
+        text,
+        &mut labels,
+        &mut lens,
+        &mut kinds,
+        &mut firsts,
+        &mut counts,
+        &mut ops,
+        &mut nums,
+    );
+    report(
+        text,
+        &labels,
+        &lens,
+        &kinds,
+        &firsts,
+        &counts,
+        &ops,
+        &nums,
+        answer,
+    );
+}
+
+// Tables that are too short: refusal 1, before 3.
+fn read_short(text: &[u8]) {
+    let mut labels = [46u8; 2048];
+    let mut lens = [7usize; 64];
+    let mut kinds = [7u8; 64];
+    let mut firsts = [7usize; 64];
+    let mut counts = [7usize; 63];
+    let mut ops = [7u8; 1024];
+    let mut nums = [7u64; 1024];
+    let answer = read_book(
+        text,
+        &mut labels,
+        &mut lens,
+        &mut kinds,
+        &mut firsts,
+        &mut counts,
+        &mut ops,
+        &mut nums,
+    );
+    match answer {
+        Answer::Refused { number, line } => {
+            put(b"short tables refused");
+            show(number as u64);
+            show_size(line);
+            put(b"\n");
+        }
+        Answer::Read {
+            rules: _,
+            nodes: _,
+            steps_at: _,
+        } => put(b"short tables READ\n"),
+    }
+}
+
+// Book number n of data/: its name has three digits.
+fn run(n: u8) -> bool {
+    let name = [b'b', 48 + n / 100, 48 + n / 10 % 10, 48 + n % 10];
+    let fd = os::open_read(&name);
+    if fd < 0 {
+        return false;
+    }
+    let mut text = io::large_buffer();
+    let got = io::read_full(fd, &mut text);
+    libc::close(fd);
+    put(&name);
+    read_text(&text[..got]);
+    true
+}
+
+fn run_all() {
+    let mut n: u8 = 0;
+    while n < 200 {
+        if !run(n) {
+            return;
+        }
+        n += 1;
+    }
+}
+
+fn main() {
+    run_all();
+    let long = io::large_buffer();
+    read_short(&long);
+}

@@ -1,0 +1,65 @@
+-- Where a run of bytes is cut: the first part is what stands before the first place of the byte, and the rest what stands past it.
+use mathlib.Core.Path.{_≡_, refl, sym, ap, ap₂, subst, _∙_}
+use mathlib.Core.Bool.{Bool, true, false, _&&_}
+use mathlib.Core.List.{List, [], _∷_}
+use Prim.Native.Nat.{ℕ, zero, suc, _+_, _-_, _≤_, _<_}
+use native.Mathlib.Omega.{arith}
+use native.Mathlib.Numerals.{add-one}
+use lib.Dec.{eqb}
+use lib.ListN.{length, getD, take, drop}
+use Rattle.number.specs.Number.{pick}
+use Rattle.line.specs.Text.{onto, parts, fields, lines, firstAt, Found}
+
+-- the byte stands there: the parts are what stands before it and the parts of what stands past it
+pub parts-cut : (c : ℕ) (e : List (List ℕ)) (l : List ℕ) → firstAt c l < length l → parts c e l ≡ take (firstAt c l) l ∷ parts c e (drop (suc (firstAt c l)) l)
+unfolding parts firstAt onto
+parts-cut c e [] h = absurd (omega arith)
+parts-cut c e (b ∷ r) h = go (eqb b c) refl (parts-cut c e r) h
+  where
+    go : (t : Bool) → eqb b c ≡ t → (firstAt c r < length r → parts c e r ≡ take (firstAt c r) r ∷ parts c e (drop (suc (firstAt c r)) r)) → pick t zero (suc (firstAt c r)) < suc (length r) → pick t ([] ∷ parts c e r) (onto b (parts c e r)) ≡ take (pick t zero (suc (firstAt c r))) (b ∷ r) ∷ parts c e (drop (suc (pick t zero (suc (firstAt c r)))) (b ∷ r))
+    go true q ih h = refl
+    go false q ih h = rw (ih (omega arith)) refl
+
+-- it does not: there is one field
+pub fields-whole : (l : List ℕ) → firstAt 9 l ≡ length l → fields l ≡ l ∷ []
+unfolding parts firstAt onto
+fields-whole [] h = refl
+fields-whole (b ∷ r) h = go (eqb b 9) refl (fields-whole r) h
+  where
+    go : (t : Bool) → eqb b 9 ≡ t → (firstAt 9 r ≡ length r → fields r ≡ r ∷ []) → pick t zero (suc (firstAt 9 r)) ≡ suc (length r) → pick t ([] ∷ fields r) (onto b (fields r)) ≡ (b ∷ r) ∷ []
+    go true q ih h = absurd (omega arith)
+    go false q ih h = rw (ih (omega arith)) refl
+
+-- a text that is not empty: its first line, and the lines past it
+lines-whole : (l : List ℕ) → firstAt 10 l ≡ length l → 1 ≤ length l → lines l ≡ l ∷ []
+unfolding parts firstAt onto
+lines-whole [] h k = absurd (omega arith)
+lines-whole (b ∷ []) h k = go (eqb b 10) refl h
+  where
+    go : (t : Bool) → eqb b 10 ≡ t → pick t zero (suc zero) ≡ suc zero → pick t ([] ∷ []) (onto b []) ≡ (b ∷ []) ∷ []
+    go true q h = absurd (omega arith)
+    go false q h = refl
+lines-whole (b ∷ c ∷ r) h k = go (eqb b 10) refl (lines-whole (c ∷ r)) h
+  where
+    go : (t : Bool) → eqb b 10 ≡ t → (firstAt 10 (c ∷ r) ≡ length (c ∷ r) → 1 ≤ length (c ∷ r) → lines (c ∷ r) ≡ (c ∷ r) ∷ []) → pick t zero (suc (firstAt 10 (c ∷ r))) ≡ suc (length (c ∷ r)) → pick t ([] ∷ lines (c ∷ r)) (onto b (lines (c ∷ r))) ≡ (b ∷ c ∷ r) ∷ []
+    go true q ih h = absurd (omega arith)
+    go false q ih h = rw (ih (omega arith) (omega arith)) refl
+
+pub first-inside : (c : ℕ) (l : List ℕ) → firstAt c l ≤ length l
+unfolding firstAt
+first-inside c [] = omega arith
+first-inside c (b ∷ r) = go (eqb b c) (first-inside c r)
+  where
+    go : (t : Bool) → firstAt c r ≤ length r → pick t zero (suc (firstAt c r)) ≤ suc (length r)
+    go true h = omega arith
+    go false h = omega arith
+
+pub lines-next : (l : List ℕ) (n : ℕ) → Found 10 l n → 1 ≤ length l → lines l ≡ take n l ∷ lines (drop (n + 1) l)
+unfolding parts
+lines-next l n f h = go (Rattle.number.proofs.Numbers.below-or n (length l))
+  where
+    go : mathlib.Core.Logic._⊎_ (n < length l) (length l ≤ n) → lines l ≡ take n l ∷ lines (drop (n + 1) l)
+    go (mathlib.Core.Logic.inl k) = rw (add-one, f .is) (parts-cut 10 [] l (subst (λ (m : ℕ). m < length l) (f .is) k))
+    go (mathlib.Core.Logic.inr k) =
+        let e : n ≡ length l = omega (arith, f .inside) in
+        rw (lib.Seq.take-all n l k, lib.ListN.drop-of-length-le l {i = n + 1} (omega arith)) (lines-whole l (sym (f .is) ∙ e) h)

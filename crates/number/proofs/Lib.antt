@@ -1,0 +1,2 @@
+-- Laws of the numbers of a book.
+pub mod Numbers

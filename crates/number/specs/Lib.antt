@@ -1,0 +1,2 @@
+-- What the numbers of a book are.
+pub mod Number

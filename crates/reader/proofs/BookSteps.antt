@@ -1,0 +1,166 @@
+-- The cursor over the step lines: one law for each return, and the theorem that an accepted book's steps stand in order where
+-- its answer says.
+use mathlib.Core.Path.{_≡_, refl, sym, ap, ap₂, subst, _∙_}
+use mathlib.Core.Bool.{Bool, true, false, _&&_, not}
+use mathlib.Core.List.{List, [], _∷_, _++_, append-assoc}
+use mathlib.Core.Option.{Option, none, some}
+use Prim.Native.Nat.{ℕ, zero, suc, _+_, _-_, _≤_, _<_}
+use native.Mathlib.Omega.{arith}
+use types.Run.{OneOf, miss}
+use denote.Enum.Declared.{tagOf}
+use lib.ListN.{length, take, drop, length-drop, drop-of-length-le}
+use lib.Seq.{drop-drop, length-take-le}
+use Rattle.number.specs.Number.{pick}
+use Rattle.line.specs.Text.{lines, parts, firstAt, Found}
+use Rattle.line.specs.Line.{Line, bad, rule, wrong-rule, node, wrong-node, step, wrong-step, parse}
+use Rattle.line.specs.Means.{means, LineIs}
+use Rattle.line.specs.declared.line.Line as code
+use Rattle.line.specs.declared.line.Line.the-variants as code-lines
+use Rattle.line.proofs.line.Line as line-type
+use Rattle.line.proofs.Parts.{lines-next, first-inside}
+use Rattle.book.specs.Book.{Book, StepLine, empty, isNil, whole, Fault, sortOf, isLine, stands, labelled, numbered, fault, add, Outcome, accepted, refused, unless, readOn, read}
+use Rattle.reader.specs.Steps.{before, stepsOf, stepsFrom, handed, Hands}
+use Rattle.reader.specs.declared.steps.StepRead.{StepRead}
+use Rattle.reader.specs.declared.steps.StepRead.the-variants.{Step, End}
+use Rattle.reader.proofs.Sounds.{both, Passed, passed}
+use Rattle.reader.proofs.Runs.{accepted-lines, accepted-inj, unless-none}
+
+-- ---- the cursor
+pub hands-end : (text : List ℕ) (at : ℕ) → length text ≤ at → Hands text at End
+unfolding stepsFrom stepsOf parts
+hands-end text at h = record { is = rw (drop-of-length-le text h) refl; forward = tt }
+
+module _ (text rest first : List ℕ) (at n : ℕ) (l : code.Line) (h : at < length text) (e : rest ≡ drop at text) (f : Found 10 rest n) (e′ : first ≡ take n rest) (is : LineIs first l) where
+  next-line : lines (drop at text) ≡ first ∷ lines (drop (at + (n + 1)) text)
+  next-line =
+      let long : 1 ≤ length rest = subst (λ (x : List ℕ). 1 ≤ length x) (sym e) (omega (arith, length-drop at text)) in
+      let go : drop (n + 1) rest ≡ drop (at + (n + 1)) text = ap (drop (n + 1)) e ∙ drop-drop (n + 1) at text in
+      ap lines (sym e) ∙ lines-next rest n f long ∙ ap₂ _∷_ (sym e′) (ap lines go)
+
+  pub hands-step : (s w : ℕ) → l ≡ code-lines.Step s w → Hands text at (Step s w (at + (n + 1)))
+  unfolding stepsFrom stepsOf means
+  hands-step s w q =
+      let z : means first l ≡ step s w = ap (means first) q in
+      let p : parse first ≡ step s w = sym (is .holds) ∙ z in
+      record { is = ap stepsOf next-line ∙ ap (λ (x : Line). before x (stepsOf (lines (drop (at + (n + 1)) text)))) p; forward = omega arith }
+
+  pub hands-other : OneOf (0 ∷ 1 ∷ 2 ∷ 3 ∷ 4 ∷ 6 ∷ []) (tagOf line-type.the-type l) → Hands text at End
+  unfolding stepsFrom stepsOf means
+  hands-other q = record { is = ap stepsOf next-line ∙ ap (λ (x : Line). before x (stepsOf (lines (drop (at + (n + 1)) text)))) (sym (is .holds)) ∙ go l q; forward = tt }
+    where
+      go : (m : code.Line) → OneOf (0 ∷ 1 ∷ 2 ∷ 3 ∷ 4 ∷ 6 ∷ []) (tagOf line-type.the-type m) → before (means first m) (stepsOf (lines (drop (at + (n + 1)) text))) ≡ []
+      go code-lines.Bad k = refl
+      go (code-lines.Rule a b c) k = refl
+      go code-lines.WrongRule k = refl
+      go (code-lines.Node a b) k = refl
+      go code-lines.WrongNode k = refl
+      go (code-lines.Step a b) k = absurd (miss (0 ∷ 1 ∷ 2 ∷ 3 ∷ 4 ∷ 6 ∷ []) 5 tt k)
+      go code-lines.WrongStep k = refl
+
+-- ---- the book's steps
+true-false : {A : Type 0} → true ≡ false → A
+true-false e = let z : _≡_ {A = ℕ} 0 1 = cc in absurd (omega arith)
+
+accepted-refused : {B : Type 0} {b : Book} {n k : ℕ} → refused n k ≡ accepted b → B
+accepted-refused e = let z : _≡_ {A = ℕ} 0 1 = cc in absurd (omega arith)
+
+-- a book that has begun its steps: no rule is unfinished
+pub record Stepping (b : Book) : Type 0 where
+  pub whole : isNil (b .due) ≡ true
+  pub steps : isNil (b .steps) ≡ false
+
+snoc-nil : {A : Type 0} (l : List A) (a : A) → isNil (l ++ a ∷ []) ≡ false
+snoc-nil [] a = refl
+snoc-nil (b ∷ r) a = refl
+
+-- the lines behind a step line are step lines
+step-on : (n : ℕ) (b : Book) (l : Line) (r : List StepLine) → Stepping b → Passed b l → Stepping (add n b l) × (add n b l .head ≡ b .head) × (add n b l .steps ++ r ≡ b .steps ++ before l r)
+unfolding add stands labelled numbered
+step-on n b bad r s p = true-false (sym (p .line))
+step-on n b (rule l k) r s p = true-false (sym (both {a = whole b} {b = isNil (b .steps)} (p .here) .1) ∙ s .steps)
+step-on n b wrong-rule r s p = true-false (sym (p .labels))
+step-on n b (node op v) r s p = true-false (sym (p .here) ∙ ap not (s .whole))
+step-on n b wrong-node r s p = true-false (sym (p .numbers))
+step-on n b (step u w) r s p = (record { whole = s .whole; steps = snoc-nil (b .steps) (record { number = u; truths = w }) }, refl, append-assoc (b .steps) (record { number = u; truths = w } ∷ []) r)
+step-on n b wrong-step r s p = true-false (sym (p .numbers))
+
+ends : (b c : Book) (k : ℕ) → readOn b k [] ≡ accepted c → b ≡ c
+unfolding readOn
+ends b c k e = go (whole b) e
+  where
+    go : (t : Bool) → pick t (accepted b) (refused 10 k) ≡ accepted c → b ≡ c
+    go true e = accepted-inj e
+    go false e = accepted-refused e
+
+later : (b c : Book) (k : ℕ) (ls : List (List ℕ)) → Stepping b → readOn b k ls ≡ accepted c → (c .head ≡ b .head) × (c .steps ≡ b .steps ++ stepsOf ls)
+unfolding readOn stepsOf
+later b c k [] s e =
+    let q : b ≡ c = ends b c k e in
+    (ap (λ (x : Book). x .head) (sym q), ap (λ (x : Book). x .steps) (sym q) ∙ sym (mathlib.Core.List.append-nil (b .steps)))
+later b c k (l ∷ ls) s e =
+    let (o, r) = unless-none (fault b (parse l)) k _ c e in
+    let (s′, hd, st) = step-on (length l + 1) b (parse l) (stepsOf ls) s (passed b (parse l) o) in
+    let (h, t) = later (add (length l + 1) b (parse l)) c (k + 1) ls s′ r in
+    (h ∙ hd, t ∙ st)
+
+-- a line before the steps: a step begins them, any other keeps none and goes on
+abbrev Begins : ℕ → Book → Line → Type 0
+Begins n b l = mathlib.Core.Logic._⊎_ ((Stepping (add n b l)) × (add n b l .head ≡ b .head) × ((r : List StepLine) → add n b l .steps ++ r ≡ before l r)) ((add n b l .steps ≡ []) × (add n b l .head ≡ b .head + n))
+
+begins : (n : ℕ) (b : Book) (l : Line) → b .steps ≡ [] → Passed b l → Begins n b l
+unfolding add stands labelled numbered
+begins n b bad s p = true-false (sym (p .line))
+begins n b (rule l k) s p = mathlib.Core.Logic.inr (s, refl)
+begins n b wrong-rule s p = true-false (sym (p .labels))
+begins n b (node op v) s p = mathlib.Core.Logic.inr (s, refl)
+begins n b wrong-node s p = true-false (sym (p .numbers))
+begins n b (step u w) s p = mathlib.Core.Logic.inl (record { whole = p .here; steps = snoc-nil (b .steps) (record { number = u; truths = w }) }, refl, λ r. ap (λ (x : List StepLine). (x ++ record { number = u; truths = w } ∷ []) ++ r) s)
+begins n b wrong-step s p = true-false (sym (p .numbers))
+
+-- from the head of the accepted book, counted from where b's own head ends, its steps stand
+pub record From (b c : Book) (t : List ℕ) : Type 0 where
+  pub later : b .head ≤ c .head
+  pub are : stepsOf (lines (drop (c .head - b .head) t)) ≡ c .steps
+
+from-none : (b c : Book) (k : ℕ) → b .steps ≡ [] → readOn b k [] ≡ accepted c → From b c []
+unfolding stepsOf parts
+from-none b c k s e =
+    let q : b ≡ c = ends b c k e in
+    let hd : b .head ≡ c .head = ap (λ (x : Book). x .head) q in
+    let z : c .head - b .head ≡ 0 = omega arith in
+    record { later = omega arith; are = rw z (sym s ∙ ap (λ (x : Book). x .steps) q) }
+
+from : (fuel : ℕ) (b c : Book) (k : ℕ) (t : List ℕ) → length t ≤ fuel → b .steps ≡ [] → readOn b k (lines t) ≡ accepted c → From b c t
+unfolding readOn stepsOf parts
+from zero b c k [] h s e = from-none b c k s e
+from zero b c k (x ∷ r) h s e = absurd (omega arith)
+from (suc fuel) b c k [] h s e = from-none b c k s e
+from (suc fuel) b c k (x ∷ r) h s e =
+    let t : List ℕ = x ∷ r in
+    let n : ℕ = firstAt 10 t in
+    let found : Found 10 t n = record { is = refl; inside = first-inside 10 t } in
+    let cut : lines t ≡ take n t ∷ lines (drop (n + 1) t) = lines-next t n found (omega arith) in
+    let size : length (take n t) ≡ n = length-take-le n t (first-inside 10 t) in
+    let whole-line : readOn b k (take n t ∷ lines (drop (n + 1) t)) ≡ accepted c = subst (λ (y : List (List ℕ)). readOn b k y ≡ accepted c) cut e in
+    let (o, a) = unless-none (fault b (parse (take n t))) k _ c whole-line in
+    go fuel b c k t n s cut size (passed b (parse (take n t)) o) a
+    (λ (d : Book) (q : d .steps ≡ []). from fuel d c (k + 1) (drop (n + 1) t) (omega (arith, length-drop (n + 1) t)) q)
+    (begins (length (take n t) + 1) b (parse (take n t)) s (passed b (parse (take n t)) o))
+  where
+    go : (fuel : ℕ) (b c : Book) (k : ℕ) (t : List ℕ) (n : ℕ) → b .steps ≡ [] → lines t ≡ take n t ∷ lines (drop (n + 1) t) → length (take n t) ≡ n → Passed b (parse (take n t)) → readOn (add (length (take n t) + 1) b (parse (take n t))) (k + 1) (lines (drop (n + 1) t)) ≡ accepted c → ((d : Book) → d .steps ≡ [] → readOn d (k + 1) (lines (drop (n + 1) t)) ≡ accepted c → From d c (drop (n + 1) t)) → Begins (length (take n t) + 1) b (parse (take n t)) → From b c t
+    go fuel b c k t n s cut size p a ih (mathlib.Core.Logic.inl (stp, hd, st)) =
+        let (h, ss) = later (add (length (take n t) + 1) b (parse (take n t))) c (k + 1) (lines (drop (n + 1) t)) stp a in
+        let z : c .head - b .head ≡ 0 = omega arith in
+        record { later = omega arith; are = rw z (ap stepsOf cut ∙ sym (ss ∙ st (stepsOf (lines (drop (n + 1) t))))) }
+    go fuel b c k t n s cut size p a ih (mathlib.Core.Logic.inr (none-yet, hd)) =
+        let d : Book = add (length (take n t) + 1) b (parse (take n t)) in
+        let f : From d c (drop (n + 1) t) = ih d none-yet a in
+        let z : n + 1 + (c .head - d .head) ≡ c .head - b .head = omega (arith, f .later, size, hd) in
+        record { later = omega (arith, f .later, hd); are = ap (λ (y : List ℕ). stepsOf (lines y)) (sym (drop-drop (c .head - d .head) (n + 1) t ∙ ap (λ (i : ℕ). drop i t) z)) ∙ f .are }
+
+-- from where its answer says that they begin, the text's step lines are the book's steps in order
+pub steps-of-book : (text : List ℕ) (b : Book) → read text ≡ accepted b → stepsFrom text (b .head) ≡ b .steps
+unfolding stepsFrom
+steps-of-book text b e =
+    let z : b .head ≡ b .head - 0 = omega arith in
+    ap (λ (i : ℕ). stepsOf (lines (drop i text))) z ∙ from (length text) empty b 0 text (omega arith) refl (accepted-lines text b e) .are

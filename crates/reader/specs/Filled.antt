@@ -1,0 +1,101 @@
+-- What the functions of the filling pass ask and leave.
+use mathlib.Core.Path.{_≡_}
+use mathlib.Core.Bool.{Bool, true, false}
+use mathlib.Core.List.{List, [], _∷_, _++_}
+use Prim.Native.Nat.{ℕ, suc, _+_, _-_, _*_, _≤_, _<_}
+use lib.ListN.{length, take, drop, set}
+use Rattle.line.specs.Line.{Line, bad, rule, wrong-rule, node, wrong-node, step, wrong-step, parse}
+use Rattle.book.specs.Book.{Book, accepted, read}
+use Rattle.reader.specs.Tables.{Tables, written, roomy}
+use Rattle.reader.specs.declared.fill.Tally.{Tally}
+
+-- a list with another written into it from a place on
+abbrev pub placed : List ℕ → ℕ → List ℕ → List ℕ
+placed l k xs = take k l ++ xs ++ drop (k + length xs) l
+
+pub record RuleRoom (labels lens kinds firsts counts label : List ℕ) (f : Tally) : Type 0 where
+  pub in-labels : 2048 ≤ length labels
+  pub in-lens : 64 ≤ length lens
+  pub in-kinds : 64 ≤ length kinds
+  pub in-firsts : 64 ≤ length firsts
+  pub in-counts : 64 ≤ length counts
+  pub few : f .rules < 64
+  pub short : length label ≤ 32
+
+pub record RulePut (labels lens kinds firsts counts label : List ℕ) (kind : ℕ) (f : Tally) (labels′ lens′ kinds′ firsts′ counts′ : List ℕ) (r : Tally) : Type 0 where
+  pub labels-is : labels′ ≡ placed labels (32 * f .rules) label
+  pub lens-is : lens′ ≡ set lens (f .rules) (length label)
+  pub kinds-is : kinds′ ≡ set kinds (f .rules) kind
+  pub firsts-is : firsts′ ≡ set firsts (f .rules) (f .nodes)
+  pub counts-is : counts′ ≡ set counts (f .rules) 0
+  pub rules-is : r .rules ≡ f .rules + 1
+  pub nodes-is : r .nodes ≡ f .nodes
+  pub own-is : r .own ≡ 0
+
+pub record NodeRoom (counts ops nums : List ℕ) (f : Tally) : Type 0 where
+  pub in-counts : 64 ≤ length counts
+  pub in-ops : 1024 ≤ length ops
+  pub in-nums : 1024 ≤ length nums
+  pub begun : 1 ≤ f .rules
+  pub few : f .rules ≤ 64
+  pub less : f .nodes < 1024
+  pub own : f .own < 256
+
+pub record NodePut (counts ops nums : List ℕ) (op num : ℕ) (f : Tally) (counts′ ops′ nums′ : List ℕ) (r : Tally) : Type 0 where
+  pub counts-is : counts′ ≡ set counts (f .rules - 1) (f .own + 1)
+  pub ops-is : ops′ ≡ set ops (f .nodes) op
+  pub nums-is : nums′ ≡ set nums (f .nodes) num
+  pub rules-is : r .rules ≡ f .rules
+  pub nodes-is : r .nodes ≡ f .nodes + 1
+  pub own-is : r .own ≡ f .own + 1
+
+-- a line's room and what it leaves, by what it holds
+abbrev pub RoomFor : Line → Tables → Tally → Type 0
+RoomFor bad t f = Unit
+RoomFor (rule l k) t f = RuleRoom (t .labels) (t .lens) (t .kinds) (t .firsts) (t .counts) l f
+RoomFor wrong-rule t f = Unit
+RoomFor (node op v) t f = NodeRoom (t .counts) (t .ops) (t .nums) f
+RoomFor wrong-node t f = Unit
+RoomFor (step s w) t f = Unit
+RoomFor wrong-step t f = Unit
+
+-- nothing has changed
+pub record Kept (t : Tables) (f : Tally) (t′ : Tables) (f′ : Tally) : Type 0 where
+  pub tables : t′ ≡ t
+  pub fill : f′ ≡ f
+
+pub record RuleDone (l : List ℕ) (k : ℕ) (t : Tables) (f : Tally) (t′ : Tables) (f′ : Tally) : Type 0 where
+  pub put : RulePut (t .labels) (t .lens) (t .kinds) (t .firsts) (t .counts) l k f (t′ .labels) (t′ .lens) (t′ .kinds) (t′ .firsts) (t′ .counts) f′
+  pub ops-kept : t′ .ops ≡ t .ops
+  pub nums-kept : t′ .nums ≡ t .nums
+
+pub record NodeDone (op v : ℕ) (t : Tables) (f : Tally) (t′ : Tables) (f′ : Tally) : Type 0 where
+  pub put : NodePut (t .counts) (t .ops) (t .nums) op v f (t′ .counts) (t′ .ops) (t′ .nums) f′
+  pub labels-kept : t′ .labels ≡ t .labels
+  pub lens-kept : t′ .lens ≡ t .lens
+  pub kinds-kept : t′ .kinds ≡ t .kinds
+  pub firsts-kept : t′ .firsts ≡ t .firsts
+
+abbrev pub LeftBy : Line → Tables → Tally → Tables → Tally → Type 0
+LeftBy bad t f t′ f′ = Kept t f t′ f′
+LeftBy (rule l k) t f t′ f′ = RuleDone l k t f t′ f′
+LeftBy wrong-rule t f t′ f′ = Kept t f t′ f′
+LeftBy (node op v) t f t′ f′ = NodeDone op v t f t′ f′
+LeftBy wrong-node t f t′ f′ = Kept t f t′ f′
+LeftBy (step s w) t f t′ f′ = Kept t f t′ f′
+LeftBy wrong-step t f t′ f′ = Kept t f t′ f′
+
+pub record LineRoom (line : List ℕ) (t : Tables) (f : Tally) : Type 0 where
+  pub room : RoomFor (parse line) t f
+
+pub record LinePut (line : List ℕ) (t : Tables) (f : Tally) (t′ : Tables) (f′ : Tally) : Type 0 where
+  pub left : LeftBy (parse line) t f t′ f′
+
+-- the book is accepted and there is room for it; it is then written
+pub record Fillable (text : List ℕ) (t : Tables) : Type 0 where
+  pub book : Book
+  pub is : read text ≡ accepted book
+  pub room : roomy t ≡ true
+
+pub record Filled (text : List ℕ) (t t′ : Tables) : Type 0 where
+  pub is : (b : Book) → read text ≡ accepted b → t′ ≡ written b t

@@ -1,0 +1,151 @@
+// The filling pass over a book that is accepted: the rule list and the formula table, a line at a time.
+use line::line::Line;
+use line::line::read_line;
+use line::text::find;
+use line::text::past;
+use line::text::upto;
+ghost use mathlib.Core.Path.{_≡_};
+ghost use Prim.Native.Nat.{_+_, _*_, _≤_, _<_};
+ghost use lib.ListN.{length};
+ghost use Rattle.reader.specs.Tables.{Tables};
+ghost use Rattle.reader.specs.Filled.{placed, RuleRoom, RulePut, NodeRoom, NodePut, LineRoom, LinePut, Fillable, Filled};
+
+// The rules begun, the nodes written, and the nodes of the rule in hand.
+pub struct Tally {
+    pub rules: usize,
+    pub nodes: usize,
+    pub own: usize,
+}
+
+// All of src into dst from a place on.
+fn copy_in(dst: &mut [u8], at: usize, src: &[u8])
+    requires { ⌜ at + length (now src) ≤ length (now dst) ⌝ }
+    ensures { λ _. ⌜ now (dst .exit) ≡ placed (now (dst .entry)) at (now (src .entry)) ⌝ }
+{
+    let mut j: usize = 0;
+    while j < src.len() {
+        dst[at + j] = src[j];
+        j += 1;
+    }
+}
+
+// A rule's head at its place of the rule list.
+fn put_rule(
+    labels: &mut [u8],
+    lens: &mut [usize],
+    kinds: &mut [u8],
+    firsts: &mut [usize],
+    counts: &mut [usize],
+    label: &[u8],
+    kind: u8,
+    f: Tally,
+) -> Tally
+    requires { ⌜ RuleRoom (now labels) (now lens) (now kinds) (now firsts) (now counts) (now label) f ⌝ }
+    ensures { λ r. ⌜ RulePut (now (labels .entry)) (now (lens .entry)) (now (kinds .entry)) (now (firsts .entry)) (now (counts .entry)) (now (label .entry)) kind f (now (labels .exit)) (now (lens .exit)) (now (kinds .exit)) (now (firsts .exit)) (now (counts .exit)) r ⌝ }
+{
+    let r = f.rules;
+    let n = f.nodes;
+    let len = label.len();
+    copy_in(labels, 32 * r, label);
+    lens[r] = len;
+    kinds[r] = kind;
+    firsts[r] = n;
+    counts[r] = 0;
+    Tally {
+        rules: r + 1,
+        nodes: n,
+        own: 0,
+    }
+}
+
+// A node at its place of the formula table, counted in its rule.
+fn put_node(
+    counts: &mut [usize],
+    ops: &mut [u8],
+    nums: &mut [u64],
+    op: u8,
+    num: u64,
+    f: Tally,
+) -> Tally
+    requires { ⌜ NodeRoom (now counts) (now ops) (now nums) f ⌝ }
+    ensures { λ r. ⌜ NodePut (now (counts .entry)) (now (ops .entry)) (now (nums .entry)) op num f (now (counts .exit)) (now (ops .exit)) (now (nums .exit)) r ⌝ }
+{
+    let r = f.rules;
+    let n = f.nodes;
+    let own = f.own;
+    let last = r - 1;
+    let more = own + 1;
+    counts[last] = more;
+    ops[n] = op;
+    nums[n] = num;
+    Tally {
+        rules: r,
+        nodes: n + 1,
+        own: more,
+    }
+}
+
+// One line.
+fn put_line(
+    line: &[u8],
+    labels: &mut [u8],
+    lens: &mut [usize],
+    kinds: &mut [u8],
+    firsts: &mut [usize],
+    counts: &mut [usize],
+    ops: &mut [u8],
+    nums: &mut [u64],
+    f: Tally,
+) -> Tally
+    requires { ⌜ LineRoom (now line) (record { labels = now labels; lens = now lens; kinds = now kinds; firsts = now firsts; counts = now counts; ops = now ops; nums = now nums }) f ⌝ }
+    ensures { λ r. ⌜ LinePut (now (line .entry)) (record { labels = now (labels .entry); lens = now (lens .entry); kinds = now (kinds .entry); firsts = now (firsts .entry); counts = now (counts .entry); ops = now (ops .entry); nums = now (nums .entry) }) f (record { labels = now (labels .exit); lens = now (lens .exit); kinds = now (kinds .exit); firsts = now (firsts .exit); counts = now (counts .exit); ops = now (ops .exit); nums = now (nums .exit) }) r ⌝ }
+{
+    let l = read_line(line);
+    match l {
+        Line::Rule { start, len, kind } => {
+            let rest = past(line, start);
+            let label = upto(rest, len);
+            put_rule(labels, lens, kinds, firsts, counts, label, kind, f)
+        }
+        Line::Node { op, num } => put_node(counts, ops, nums, op, num, f),
+        _ => f,
+    }
+}
+
+// All lines.
+pub fn fill(
+    text: &[u8],
+    labels: &mut [u8],
+    lens: &mut [usize],
+    kinds: &mut [u8],
+    firsts: &mut [usize],
+    counts: &mut [usize],
+    ops: &mut [u8],
+    nums: &mut [u64],
+)
+    requires { ⌜ Fillable (now text) (record { labels = now labels; lens = now lens; kinds = now kinds; firsts = now firsts; counts = now counts; ops = now ops; nums = now nums }) ⌝ }
+    ensures { λ _. ⌜ Filled (now (text .entry)) (record { labels = now (labels .entry); lens = now (lens .entry); kinds = now (kinds .entry); firsts = now (firsts .entry); counts = now (counts .entry); ops = now (ops .entry); nums = now (nums .entry) }) (record { labels = now (labels .exit); lens = now (lens .exit); kinds = now (kinds .exit); firsts = now (firsts .exit); counts = now (counts .exit); ops = now (ops .exit); nums = now (nums .exit) }) ⌝ }
+{
+    let mut f = Tally {
+        rules: 0,
+        nodes: 0,
+        own: 0,
+    };
+    let mut at: usize = 0;
+    while at < text.len() {
+        let rest = past(text, at);
+        let n = find(rest, 10);
+        f = put_line(
+            upto(rest, n),
+            labels,
+            lens,
+            kinds,
+            firsts,
+            counts,
+            ops,
+            nums,
+            f,
+        );
+        at += n + 1;
+    }
+}

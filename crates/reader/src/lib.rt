@@ -1,0 +1,4 @@
+// Reading a book into lent tables, and its steps one by one.
+pub mod fill;
+pub mod read;
+pub mod steps;
