@@ -1,0 +1,5 @@
+-- The laws of writing lines.
+pub mod Fields
+pub mod Nodes
+pub mod Rules
+pub mod Rows

@@ -1,0 +1,4 @@
+// The lines of a listing, written into lent memory.
+pub mod field;
+pub mod node;
+pub mod rule;

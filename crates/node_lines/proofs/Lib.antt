@@ -1,0 +1,2 @@
+-- The laws of writing `node` lines.
+pub mod Cells

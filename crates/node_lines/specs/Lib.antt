@@ -1,0 +1,2 @@
+-- The `node` lines of a compiled rule, and what writing them asks and leaves.
+pub mod Rows

@@ -1,0 +1,2 @@
+-- The laws of writing signals and operands.
+pub mod Scans

@@ -1,0 +1,2 @@
+// The texts of signals and of operands, written from a formula table.
+pub mod scan;

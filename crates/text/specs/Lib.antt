@@ -1,0 +1,2 @@
+-- What writing text into lent memory leaves.
+pub mod Tape
