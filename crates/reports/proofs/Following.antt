@@ -89,11 +89,10 @@ module _ (mem : Memory) (n : ℕ) (d : Inside mem n) where
       ∙ List·getD-append (replicate n v) _ e k (subst (λ (j : ℕ). k < j) (sym (length-replicate n v)) g)
       ∙ getD-replicate n k v e g
 
-  blank : NodeState
+  abbrev pub blank : NodeState
   blank = record { held = false; remaining = 0; failed = false; culprit = minus-one }
 
-  clear-entry : (k : ℕ) → k < n → get (cleared mem n) k ≡ blank
-  unfolding blank
+  pub clear-entry : (k : ℕ) → k < n → get (cleared mem n) k ≡ blank
   clear-entry k h = λ i. record {
     held = front (mem .held) false false k (d .held) h i;
     remaining = front (mem .remaining) 0 0 k (d .remaining) h i;
@@ -102,7 +101,7 @@ module _ (mem : Memory) (n : ℕ) (d : Inside mem n) where
   }
 
   pub fresh-reads : (m : Mon) (k : ℕ) → k + count m ≤ n → readMon m (cleared mem n) k ≡ fresh m
-  unfolding readMon count blank
+  unfolding readMon count
   fresh-reads (check (range-check p r)) k h = ap (readCheck (range-check p r)) (clear-entry k (omega arith))
   fresh-reads (check (delayed-check p q r)) k h = ap (readCheck (delayed-check p q r)) (clear-entry k (omega arith))
   fresh-reads (check (obligation b p q r)) k h = ap (readCheck (obligation b p q r)) (clear-entry k (omega arith))

@@ -2,3 +2,4 @@
 pub mod Following
 pub mod Demand
 pub mod Staying
+pub mod Starting

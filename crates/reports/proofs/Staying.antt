@@ -71,7 +71,7 @@ module _ (nodes : List ℕ) (nfirst : ℕ) (forms bounds : List ℕ) where
   shaped-same a b (suc n) k h = ap₂ _&&_ (ap (rowFits (rowOf nodes (nfirst + k)) (getD forms k 0) (getD bounds k 0)) (h k (omega arith) (omega arith))) (shaped-same a b n (k + 1) (λ j p q. h j (omega arith) (omega arith)))
 
   -- the row of node k, and the rest
-  row-and : (mem : Memory) (k a b : ℕ) → rowFits (rowOf nodes (nfirst + k)) (getD forms k 0) (getD bounds k 0) (get mem k) ≡ true → shapedFrom nodes nfirst forms bounds mem (k + 1) a ≡ true → shapedFrom nodes nfirst forms bounds mem (k + 1 + a) b ≡ true → shapedFrom nodes nfirst forms bounds mem k (1 + a + b) ≡ true
+  pub row-and : (mem : Memory) (k a b : ℕ) → rowFits (rowOf nodes (nfirst + k)) (getD forms k 0) (getD bounds k 0) (get mem k) ≡ true → shapedFrom nodes nfirst forms bounds mem (k + 1) a ≡ true → shapedFrom nodes nfirst forms bounds mem (k + 1 + a) b ≡ true → shapedFrom nodes nfirst forms bounds mem k (1 + a + b) ≡ true
   unfolding shapedFrom
   row-and mem k a b x p q =
       let o : 1 + a + b ≡ suc (a + b) = omega arith in
