@@ -25,12 +25,12 @@ use Rattle.stepping.specs.declared.state.NodeState.{NodeState}
 use Rattle.stepping.specs.Memory.{Memory, get, Inside}
 use Rattle.stepping.specs.Walk.{NodesAt}
 use Rattle.stepping.specs.Shape.{rowFits, shapedFrom}
-use Rattle.stepping.specs.Call.{Tables, Monitor, isLent, hasRoom, ruleMon, fits, Known}
+use Rattle.stepping.specs.Call.{Tables, Monitor, isLent, hasRoom, ruleMon, fits, accept, stepCall, Known}
 use Rattle.stepping.specs.Fresh.{column, cleared, freshOf}
 use Rattle.stepping.proofs.Calling.{known-comparable}
 use Rattle.stepping.proofs.Standings.{stood}
 use Rattle.reports.proofs.Following.{blank, clear-entry}
-use Rattle.reports.proofs.Staying.{Ready, row-and}
+use Rattle.reports.proofs.Staying.{Ready, with, row-and, stays-ready}
 
 -- ---- a column of the table
 length-column : (nodes : List ℕ) (col n i : ℕ) → length (column nodes col i n) ≡ n
@@ -143,3 +143,20 @@ module _ (t : Tables) (k : Monitor) (m : Mon) (own : ruleMon t ≡ some m) (lent
 
   pub fresh-ready : Ready t (freshOf t k) m
   fresh-ready = record { own = own; lent = lent-fresh; fit = fits-fresh }
+
+-- ---- its own calls: each at a step with a word of truths, on the monitor as the one before left it
+abbrev pub stepped : Tables → Monitor → List (ℕ × ℕ) → Monitor
+stepped t k [] = k
+stepped t k (c ∷ cs) = stepped t (with k (stepCall t k (c .0) (c .1) .memory)) cs
+
+abbrev pub Below : List (ℕ × ℕ) → Type 0
+Below [] = 0 < 1
+Below (c ∷ cs) = (c .0 < 9223372036854775808) × Below cs
+
+ready-on : (t : Tables) (k : Monitor) (m : Mon) → Ready t k m → (cs : List (ℕ × ℕ)) → Below cs → Ready t (stepped t k cs) m
+ready-on t k m d [] h = d
+ready-on t k m d (c ∷ cs) h = ready-on t (with k (stepCall t k (c .0) (c .1) .memory)) m (stays-ready t k m d (c .0) (c .1) (h .0) .again) cs (h .1)
+
+-- after any own calls below 2^63, at whatever steps, the next one is accepted
+pub never-refused : (t : Tables) (k : Monitor) (m : Mon) → ruleMon t ≡ some m → isLent t k ≡ true → (cs : List (ℕ × ℕ)) → Below cs → (s w : ℕ) → s < 9223372036854775808 → stepCall t (stepped t (freshOf t k) cs) s w ≡ accept m (stepped t (freshOf t k) cs .memory) s w
+never-refused t k m own lent cs b s w h = stays-ready t (stepped t (freshOf t k) cs) m (ready-on t (freshOf t k) m (fresh-ready t k m own lent) cs b) s w h .accepted
