@@ -3,3 +3,4 @@ pub mod Following
 pub mod Demand
 pub mod Staying
 pub mod Starting
+pub mod OverRecord
