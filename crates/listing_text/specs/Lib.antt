@@ -1,0 +1,2 @@
+-- The listing of a book, as text.
+pub mod Listing

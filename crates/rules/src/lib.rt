@@ -1,0 +1,1 @@
+// The rules of a book, compiled into one node table.
