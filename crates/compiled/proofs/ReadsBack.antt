@@ -1,5 +1,6 @@
 -- The rows that `compile_formula` leaves in its output read back as the compiled rule.
---     reads-back         for a rule that no refusal applies to
+--     reads-stored       wherever a table holds the rows of a rule that no refusal applies to
+--     reads-back         from the output's start
 --     compiled-reads     for the call's own definition, where its answer is a count of nodes
 use mathlib.Core.Path.{_≡_, refl, sym, ap, ap₂, subst, _∙_}
 use mathlib.Core.Bool.{Bool, true, false, _&&_}
@@ -10,8 +11,8 @@ use Prim.Native.Nat.{ℕ, zero, suc, _+_, _-_, _*_, _≤_, _<_}
 use native.Mathlib.Omega.{arith}
 use native.Mathlib.Nat.{add-zero, zero-add, suc-add}
 use lib.Dec.{leb, eqb}
-use lib.ListN.{length, getD, drop, length-append, List·getD-append}
-use lib.Seq.{sets, sets-eq, length-sets, getD-append-add}
+use lib.ListN.{length, getD, set, take, drop, length-append, List·getD-append}
+use lib.Seq.{sets, sets-eq, length-sets, length-take-le, getD-append-add, getD-set-other}
 use borrow.Author.Tests.{le-leb, leb-true, lt-ltb, le-ltb}
 use Rattle.formula.specs.Tree.{Tree, leaf, one, two, leaf-of, size, depth}
 use Rattle.formula.specs.Spells.{Spells}
@@ -42,7 +43,7 @@ use Rattle.compiler.specs.Compiled.{firstOr, compileFormula, orShort, compileCa
 use Rattle.compiler.proofs.Joining.{count-size, rows-length}
 
 -- ---- numbers stored one behind the other
-abbrev Stored : List ℕ → ℕ → List ℕ → Type 0
+abbrev pub Stored : List ℕ → ℕ → List ℕ → Type 0
 Stored l k vs = (j : ℕ) → j < length vs → getD l (k + j) 0 ≡ getD vs j 0
 
 stored-left : (l : List ℕ) (k : ℕ) (xs ys : List ℕ) → Stored l k (xs ++ ys) → Stored l k xs
@@ -52,11 +53,21 @@ stored-right : (l : List ℕ) (k n : ℕ) (xs ys : List ℕ) → k + length xs �
 stored-right l k n xs ys e s j h =
     ap (λ (i : ℕ). getD l i 0) (omega arith) ∙ s (length xs + j) (omega (arith, length-append xs ys)) ∙ getD-append-add xs ys j 0
 
-stored : (l vs : List ℕ) → length vs ≤ length l → Stored (sets l 0 vs) 0 vs
-stored l vs h j w =
-    ap (λ (i : ℕ). getD (sets l 0 vs) i 0) (zero-add j)
-    ∙ ap (λ (x : List ℕ). getD x j 0) (sets-eq vs l 0 (omega arith))
-    ∙ List·getD-append vs (drop (0 + length vs) l) 0 j w
+pub stored : (l vs : List ℕ) (k : ℕ) → k + length vs ≤ length l → Stored (sets l k vs) k vs
+stored l vs k h j w =
+    let z : length (take k l) ≡ k = length-take-le k l (omega arith) in
+    ap (λ (x : List ℕ). getD x (k + j) 0) (sets-eq vs l k h)
+    ∙ List·getD-append (take k l ++ vs) (drop (k + length vs) l) 0 (k + j) (omega (arith, length-append (take k l) vs))
+    ∙ ap (λ (i : ℕ). getD (take k l ++ vs) (i + j) 0) (sym z)
+    ∙ getD-append-add (take k l) vs j 0
+
+-- what stands before a run of stores stays
+before-sets : (l ws : List ℕ) (i j : ℕ) → j < i → getD (sets l i ws) j 0 ≡ getD l j 0
+before-sets l [] i j h = refl
+before-sets l (w ∷ ws) i j h = before-sets (set l i w) ws (suc i) j (omega arith) ∙ getD-set-other l i j w 0 (λ e. omega arith)
+
+pub stored-before : (l vs ws : List ℕ) (k i : ℕ) → k + length vs ≤ i → Stored l k vs → Stored (sets l i ws) k vs
+stored-before l vs ws k i h s j w = before-sets l ws i (k + j) (omega arith) ∙ s j w
 
 -- ---- one row
 expr-read : (s : SignalExpr) (n : ℕ) → n ≡ exprNumber s → s ≡ exprFrom n
@@ -306,23 +317,29 @@ module _ (ops nums : List ℕ) (first count′ : ℕ) (nodes : List ℕ) (f : Fo
       )
 
 -- ---- the whole rule
-pub reads-back : (ops nums : List ℕ) (first count′ : ℕ) (f : Formula) (out : List ℕ) → ruleOf ops nums first count′ ≡ some f → ruleFaults f ≡ [] → 1792 ≤ length out → compiledOf ops nums first count′ (sets out 0 (rows (ruleNode f first))) 0 (count (ruleNode f first)) ≡ some (ruleNode f first)
-reads-back ops nums first count′ f out e w h =
+pub reads-stored : (ops nums : List ℕ) (first count′ : ℕ) (f : Formula) (nodes : List ℕ) (i : ℕ) → ruleOf ops nums first count′ ≡ some f → ruleFaults f ≡ [] → 7 * (i + count (ruleNode f first)) ≤ length nodes → Stored nodes (7 * i) (rows (ruleNode f first)) → compiledOf ops nums first count′ nodes i (count (ruleNode f first)) ≡ some (ruleNode f first)
+reads-stored ops nums first count′ f nodes i e w h s =
     let u : Rule ops nums first count′ f = rule-inv ops nums first count′ f e in
     let few : count (ruleNode f first) ≤ 256 = omega (arith, count-size f first allOf false, u .covers, u .few) in
     let z : first - first ≡ 0 = omega arith in
     let p : Here f first first f = record { from = omega arith; is = ap (subAt f) z ∙ part-whole f } in
-    let s : Stored (sets out 0 (rows (ruleNode f first))) 0 (rows (ruleNode f first)) = stored out (rows (ruleNode f first)) (omega (arith, rows-length (ruleNode f first))) in
-    held ops nums first count′ (sets out 0 (rows (ruleNode f first))) 0 (count (ruleNode f first)) f (toTree (ruleNode f first))
+    held ops nums first count′ nodes i (count (ruleNode f first)) f (toTree (ruleNode f first))
     (record {
       rule = e;
       few = few;
-      in-nodes = omega (arith, length-sets out 0 (rows (ruleNode f first)));
-      spells = spelled ops nums first count′ (sets out 0 (rows (ruleNode f first))) f e (ruleNode f first) 0 (node-seen f first f first allOf false p w) s;
+      in-nodes = h;
+      spells = spelled ops nums first count′ nodes f e (ruleNode f first) i (node-seen f first f first allOf false p w) s;
       covers = tree-size (ruleNode f first);
       shallow = omega (arith, tree-depth f first allOf false, u .shallow);
     })
     ∙ ap some (from-to (ruleNode f first))
+
+pub reads-back : (ops nums : List ℕ) (first count′ : ℕ) (f : Formula) (out : List ℕ) → ruleOf ops nums first count′ ≡ some f → ruleFaults f ≡ [] → 1792 ≤ length out → compiledOf ops nums first count′ (sets out 0 (rows (ruleNode f first))) 0 (count (ruleNode f first)) ≡ some (ruleNode f first)
+reads-back ops nums first count′ f out e w h =
+    let u : Rule ops nums first count′ f = rule-inv ops nums first count′ f e in
+    let m = ruleNode f first in
+    let few : 7 * count m ≤ 1792 = omega (arith, count-size f first allOf false, u .covers, u .few) in
+    reads-stored ops nums first count′ f (sets out 0 (rows m)) 0 e w (omega (arith, length-sets out 0 (rows m))) (stored out (rows m) 0 (omega (arith, rows-length m)))
 
 -- what an answer of nodes says of a call: its rule, no refusal, and what its output holds
 pub record Reads (ops nums : List ℕ) (first count′ : ℕ) (out : List ℕ) (n : ℕ) : Type 0 where

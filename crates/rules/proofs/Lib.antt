@@ -1,0 +1,4 @@
+-- Laws of the definitions, for this crate's proofs and for those above.
+pub mod Refusals
+pub mod Entries
+pub mod Tables
