@@ -20,11 +20,12 @@ use Rattle.plan.specs.Width.{pick}
 use Rattle.plan.specs.Layout.{bits}
 use Rattle.plan.specs.Rows.{rowBits, Part}
 use Rattle.plan.specs.Book.{bitsBelow, properties, assumptions, firstBit, listed, kept, filledIn, isZero, partBits, Rowed, Arranged}
-use Rattle.plan.proofs.Rows.{rows-bits}
+use Rattle.plan.proofs.Rows.{table-bits}
+use Rattle.plan.proofs.Books.{pick-same, same-first}
 use Rattle.layout.specs.Entry.{roomyNodes, roomyRules, monAt, bitsIn, fine, fineOf, allBelow, Outcome, outcome, pickOutcome, sound, laidOut, layoutOf, InRules, InRulesUpto}
 use Rattle.layout.specs.declared.book.Laid.{Laid}
 use Rattle.layout.specs.declared.book.Laid.the-variants.{Done, Refused}
-use Rattle.layout.proofs.Rules.{some-mon, over-formula, part-compiled}
+use Rattle.layout.proofs.Rules.{some-mon, part-compiled}
 
 -- ---- room for 64 rules
 module _ (k r f c nf nc : List ℕ) where
@@ -131,39 +132,19 @@ module _ (refusals firsts counts nfirsts ncounts : List ℕ) (ok : ℕ → Bool)
         }
 
 -- ---- two ways to know the bits of the rules below n agree, where they compile
-module _ (compiled : ℕ → Bool) (f g : ℕ → ℕ) where
-  same-below : (chosen : ℕ → Bool) (n : ℕ) → ((r : ℕ) → r < n → pick (chosen r) (f r) 0 ≡ pick (chosen r) (g r) 0) → bitsBelow chosen f n ≡ bitsBelow chosen g n
-  unfolding bitsBelow
-  same-below chosen zero h = refl
-  same-below chosen (suc n) h = ap₂ _+_ (same-below chosen n (λ r l. h r (omega arith))) (h n (omega arith))
-
-  same-listed : (old : List ℕ) (n : ℕ) → ((r : ℕ) → r < n → pick (compiled r) (f r) (getD old r 0) ≡ pick (compiled r) (g r) (getD old r 0)) → listed (kept compiled f old) n ≡ listed (kept compiled g old) n
-  unfolding listed
-  same-listed old zero h = refl
-  same-listed old (suc n) h = ap₂ (λ (l : List ℕ) (v : ℕ). l ++ (v ∷ [])) (same-listed old n (λ r l. h r (omega arith))) (h n (omega arith))
-
-pick-same : (c : Bool) (u v w : ℕ) → (c ≡ true → u ≡ v) → pick c u w ≡ pick c v w
-pick-same true u v w h = h refl
-pick-same false u v w h = refl
-
-and-first : (a b : Bool) → (a && b) ≡ true → a ≡ true
-and-first true b e = refl
-and-first false b e = e
-
 module _ (n : ℕ) (property compiled : ℕ → Bool) (f g : ℕ → ℕ) (h : (r : ℕ) → r < n → compiled r ≡ true → f r ≡ g r) where
-  same-chosen : (other : ℕ → Bool) (m : ℕ) → m ≤ n → bitsBelow (λ r. compiled r && other r) f m ≡ bitsBelow (λ r. compiled r && other r) g m
-  same-chosen other m l = same-below compiled f g (λ r. compiled r && other r) m (λ r k. pick-same (compiled r && other r) (f r) (g r) 0 (λ e. h r (omega arith) (and-first _ _ e)))
-
-  same-first : (r : ℕ) → r < n → firstBit n property compiled f r ≡ firstBit n property compiled g r
-  same-first r l =
-      ap₂ (λ (u v : ℕ). pick (property r) u v) (same-chosen property r (omega arith))
-      (ap₂ _+_ (same-chosen property n (omega arith)) (same-chosen (λ s. not (property s)) r (omega arith)))
+  same-listed : (u v : ℕ → ℕ) (old : List ℕ) (m : ℕ) → ((r : ℕ) → r < m → kept compiled u old r ≡ kept compiled v old r) → listed (kept compiled u old) m ≡ listed (kept compiled v old) m
+  unfolding listed
+  same-listed u v old zero e = refl
+  same-listed u v old (suc m) e = ap₂ (λ (l : List ℕ) (x : ℕ). l ++ (x ∷ [])) (same-listed u v old m (λ r l. e r (omega arith))) (e m (omega arith))
 
   same-bits : (old : List ℕ) → filledIn compiled f old n ≡ filledIn compiled g old n
-  same-bits old = ap (sets old 0) (same-listed compiled f g old n (λ r l. pick-same (compiled r) (f r) (g r) (getD old r 0) (λ e. h r l e)))
+  same-bits old = ap (sets old 0) (same-listed f g old n (λ r l. pick-same (compiled r) (f r) (g r) (getD old r 0) (λ e. h r l e)))
 
   same-firsts : (old : List ℕ) → filledIn compiled (firstBit n property compiled f) old n ≡ filledIn compiled (firstBit n property compiled g) old n
-  same-firsts old = ap (sets old 0) (same-listed compiled _ _ old n (λ r l. pick-same (compiled r) _ _ (getD old r 0) (λ e. same-first r l)))
+  same-firsts old = ap (sets old 0)
+      (same-listed (firstBit n property compiled f) (firstBit n property compiled g) old n
+      (λ r l. pick-same (compiled r) _ _ (getD old r 0) (λ e. same-first n property property compiled compiled f g (λ k j. refl) (λ k j. refl) h r l)))
 
 -- ---- the call
 module _ (ops nums firsts counts nodes nfirsts ncounts kinds refusals : List ℕ) (n : ℕ) (starts bits′ : List ℕ) where
@@ -238,8 +219,7 @@ module _ (ops nums firsts counts nodes nfirsts ncounts kinds refusals : List ℕ
                   same-as-mon : (r : ℕ) → r < n → isZero refusals r ≡ true → partBits nodes nfirsts ncounts r ≡ bitsIn (monAt ops nums firsts counts nodes nfirsts ncounts r)
                   same-as-mon r j c =
                       let (x, p) = some-mon _ _ refl (is-fine r j c) in
-                      let (f, u) = over-formula ops nums (getD firsts r 0) (getD counts r 0) nodes (getD nfirsts r 0) (getD ncounts r 0) x p in
-                      rows-bits f (getD firsts r 0) nodes (getD nfirsts r 0) (getD ncounts r 0) x u ∙ sym (ap bitsIn p)
+                      table-bits ops nums (getD firsts r 0) (getD counts r 0) nodes (getD nfirsts r 0) (getD ncounts r 0) x p ∙ sym (ap bitsIn p)
 
                   pub layout-done : (starts″ bits″ : List ℕ) → Arranged n (isZero kinds) (isZero refusals) (partBits nodes nfirsts ncounts) starts starts″ bits′ bits″ → outcome Done starts″ bits″ ≡ layoutOf ops nums firsts counts nodes nfirsts ncounts kinds refusals n starts bits′
                   unfolding answer

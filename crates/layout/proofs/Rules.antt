@@ -8,17 +8,15 @@ use native.Mathlib.Omega.{arith}
 use borrow.Author.Tests.{le-leb, lt-leb, lt-ltb, le-ltb}
 use lib.Dec.{leb, ltb}
 use lib.ListN.{length}
-use Rattle.formula.specs.Formula.{Formula}
-use Rattle.formula.specs.Table.{roomy, isSome, ruleOf}
+use Rattle.formula.specs.Table.{roomy, isSome}
 use Rattle.formula.proofs.Cases.{true-false}
-use Rattle.formula.proofs.Trees.{none-some}
 use Rattle.monitor.specs.Mon.{Mon}
-use Rattle.monitor.specs.Table.{monOf, monBy, compiledOf}
+use Rattle.monitor.specs.Table.{compiledOf}
 use Rattle.plan.specs.Layout.{pieces, bits, slotIn, total}
 use Rattle.plan.specs.Rows.{rowPieces, rowBits, Summed, Part}
 use Rattle.plan.specs.declared.layout.Slot.{Slot}
 use Rattle.plan.specs.declared.layout.Piece.{Piece}
-use Rattle.plan.proofs.Rows.{rows-pieces, rows-bits, compiled-part}
+use Rattle.plan.proofs.Rows.{rows-pieces, over-formula, table-bits, table-part}
 use Rattle.layout.specs.Entry.{roomyNodes, bitsBy, ruleBitsOf, pickSlot, slotBy, nodeSlotOf}
 use Rattle.layout.specs.declared.rule.RuleBits.{RuleBits}
 use Rattle.layout.specs.declared.rule.RuleBits.the-variants.{Bits, Refused as BitsRefused}
@@ -41,14 +39,6 @@ no-mon q none e h = refl
 no-mon q (some m) e h = true-false e h
 
 module _ (ops nums : List ℕ) (first count : ℕ) (nodes : List ℕ) (nfirst ncount : ℕ) where
-  by-rule : (o : Option Formula) (m : Mon) → monBy o first nodes nfirst ncount ≡ some m → (f : Formula) × (monOf f first nodes nfirst ncount ≡ some m)
-  by-rule none m e = none-some e
-  by-rule (some f) m e = (f, e)
-
-  pub over-formula : (m : Mon) → compiledOf ops nums first count nodes nfirst ncount ≡ some m → (f : Formula) × (monOf f first nodes nfirst ncount ≡ some m)
-  unfolding compiledOf
-  over-formula m e = by-rule (ruleOf ops nums first count) m e
-
   rows-length : (i n : ℕ) → length (rowPieces nodes i n) ≡ n
   unfolding rowPieces
   rows-length i zero = refl
@@ -77,13 +67,12 @@ module _ (ops nums : List ℕ) (first count : ℕ) (nodes : List ℕ) (nfirst nc
         unfolding ruleBitsOf
         bits-some b s =
             let (m, p) = some-mon q _ z y in
-            let (f, u) = over-formula m p in
-            ap Bits (s .is ∙ rows-bits f first nodes nfirst ncount m u) ∙ sym (ap₂ bitsBy (sym e ∙ h) p)
+            ap Bits (s .is ∙ table-bits ops nums first count nodes nfirst ncount m p) ∙ sym (ap₂ bitsBy (sym e ∙ h) p)
 
         slot-by : (j : ℕ) (m : Mon) → compiledOf ops nums first count nodes nfirst ncount ≡ some m → nodeSlotOf ops nums first count nodes nfirst ncount j ≡ pickSlot (ltb j ncount) (At (slotIn (rowPieces nodes nfirst ncount) j)) (SlotRefused 2)
         unfolding nodeSlotOf
         slot-by j m p =
-            let (f, u) = over-formula m p in
+            let (f, u) = over-formula ops nums first count nodes nfirst ncount m p in
             let r : pieces m ≡ rowPieces nodes nfirst ncount = sym (rows-pieces f first nodes nfirst ncount m u) in
             ap₂ (λ (b : Bool) (o : Option Mon). slotBy b o j) (sym e ∙ h) p
             ∙ ap₂ (λ (k : ℕ) (ps : List Piece). pickSlot (ltb j k) (At (slotIn ps j)) (SlotRefused 2)) (ap length r ∙ rows-length nfirst ncount) r
@@ -101,5 +90,4 @@ module _ (ops nums : List ℕ) (first count : ℕ) (nodes : List ℕ) (nfirst nc
   pub part-compiled : (q : Bool) → q ≡ isSome (compiledOf ops nums first count nodes nfirst ncount) → q ≡ true → Part nodes nfirst ncount
   part-compiled q z y =
       let (m, p) = some-mon q _ z y in
-      let (f, u) = over-formula m p in
-      compiled-part f first nodes nfirst ncount m u
+      table-part ops nums first count nodes nfirst ncount m p

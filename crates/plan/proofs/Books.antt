@@ -1,6 +1,7 @@
 -- The bits of a book's rules: the sums over rules, and the outputs rule by rule.
 use mathlib.Core.Path.{_≡_, refl, sym, ap, ap₂, subst, _∙_}
 use mathlib.Core.Bool.{Bool, true, false, _&&_, not}
+use mathlib.Core.Logic.{⊎-elim}
 use mathlib.Core.List.{List, [], _∷_, _++_}
 use Prim.Native.Nat.{ℕ, zero, suc, _+_, _*_, _≤_, _<_}
 use native.Mathlib.Omega.{arith}
@@ -9,9 +10,10 @@ use native.Mathlib.Nat.{add-zero, zero-add, add-suc, suc-add, add-assoc}
 use borrow.Author.Tests.{eq-eqb, ne-eqb}
 use lib.Dec.{eqb}
 use lib.ListN.{length, getD, set, length-append, length-set}
-use lib.Seq.{sets, length-sets, getD-set-other, set-getD}
+use lib.Seq.{sets, length-sets, getD-set-same, getD-set-other, set-getD}
 use mir.Syntax.{w64}
 use mir.Val.{Fits}
+use Rattle.formula.proofs.Cases.{below-or}
 use Rattle.plan.specs.Width.{pick}
 use Rattle.plan.specs.Rows.{Summed, Part}
 use Rattle.plan.specs.Book.{bitsBelow, properties, assumptions, firstBit, listed, kept, filledIn, isZero, partBits, Rowed, Chosen, Counted, Stored, Arranged}
@@ -141,6 +143,51 @@ fill-more old g r v e =
 
 fill-same : (old : List ℕ) (g : ℕ → ℕ) (r : ℕ) → getD (sets old 0 (listed g r)) r 0 ≡ getD old r 0
 fill-same old g r = getD-past (listed g r) old 0 r (omega (arith, listed-length g r))
+
+fill-value : (old : List ℕ) (g : ℕ → ℕ) (n r : ℕ) → r < n → n ≤ length old → getD (sets old 0 (listed g n)) r 0 ≡ g r
+fill-value old g zero r h k = absurd (omega arith)
+fill-value old g (suc n) r h k =
+    let e : sets old 0 (listed g (suc n)) ≡ set (sets old 0 (listed g n)) n (g n) =
+    ap (λ (m : ℕ). sets old 0 (listed g m)) (sym (add-one n)) ∙ sym (fill-more old g n (g n) refl) in
+    ap (λ (l : List ℕ). getD l r 0) e
+    ∙ ⊎-elim
+    (λ w. getD-set-other (sets old 0 (listed g n)) n r (g n) 0 (λ z. omega arith) ∙ fill-value old g n r w (omega arith))
+    (λ w.
+    let z : r ≡ n = omega arith in
+    ap (λ (m : ℕ). getD (set (sets old 0 (listed g n)) n (g n)) m 0) z
+    ∙ getD-set-same (sets old 0 (listed g n)) n (g n) 0 (omega (arith, length-sets old 0 (listed g n)))
+    ∙ sym (ap g z))
+    (below-or r n)
+
+-- what the layout leaves for a rule that compiles
+pub filled-value : (compiled : ℕ → Bool) (f : ℕ → ℕ) (old : List ℕ) (n r : ℕ) → r < n → n ≤ length old → compiled r ≡ true → getD (filledIn compiled f old n) r 0 ≡ f r
+filled-value compiled f old n r h k e = fill-value old (kept compiled f old) n r h k ∙ ap (λ (b : Bool). pick b (f r) (getD old r 0)) e
+
+-- ---- two ways to know the rules below n: first bits depend only on what they agree in
+pub same-below : (c d : ℕ → Bool) (f g : ℕ → ℕ) (n : ℕ) → ((r : ℕ) → r < n → pick (c r) (f r) 0 ≡ pick (d r) (g r) 0) → bitsBelow c f n ≡ bitsBelow d g n
+unfolding bitsBelow
+same-below c d f g zero h = refl
+same-below c d f g (suc n) h = ap₂ _+_ (same-below c d f g n (λ r l. h r (omega arith))) (h n (omega arith))
+
+pub pick-same : (c : Bool) (u v w : ℕ) → (c ≡ true → u ≡ v) → pick c u w ≡ pick c v w
+pick-same true u v w h = h refl
+pick-same false u v w h = refl
+
+and-first : (a b : Bool) → (a && b) ≡ true → a ≡ true
+and-first true b e = refl
+and-first false b e = e
+
+module _ (n : ℕ) (p q c d : ℕ → Bool) (f g : ℕ → ℕ) (same-kind : (r : ℕ) → r < n → p r ≡ q r) (same-compiled : (r : ℕ) → r < n → c r ≡ d r) (same-bits : (r : ℕ) → r < n → c r ≡ true → f r ≡ g r) where
+  same-chosen : (to : Bool → Bool) (m : ℕ) → m ≤ n → bitsBelow (λ r. c r && to (p r)) f m ≡ bitsBelow (λ r. d r && to (q r)) g m
+  same-chosen to m l = same-below (λ r. c r && to (p r)) (λ r. d r && to (q r)) f g m λ r k.
+      pick-same (c r && to (p r)) (f r) (g r) 0 (λ e. same-bits r (omega arith) (and-first (c r) (to (p r)) e))
+      ∙ ap₂ (λ (x y : Bool). pick (x && to y) (g r) 0) (same-compiled r (omega arith)) (same-kind r (omega arith))
+
+  pub same-first : (r : ℕ) → r < n → firstBit n p c f r ≡ firstBit n q d g r
+  same-first r l =
+      ap₂ (λ (u v : ℕ). pick (p r) u v) (same-chosen (λ b. b) r (omega arith))
+      (ap₂ _+_ (same-chosen (λ b. b) n (omega arith)) (same-chosen not r (omega arith)))
+      ∙ ap (λ (b : Bool). pick b (bitsBelow (properties q d) g r) (bitsBelow (properties q d) g n + bitsBelow (assumptions q d) g r)) (same-kind r l)
 
 one-of-two : (c q : Bool) (v p a u : ℕ) → p ≡ pick (c && q) v 0 → a ≡ pick (c && not q) v 0 → pick c (p + a) u ≡ pick c v u
 one-of-two true true v p a u e f = omega arith

@@ -13,6 +13,7 @@ use lib.ListN.{length, getD}
 use Rattle.formula.specs.Tree.{Tree, leaf, one, two, Token, leaf-of, one-of, two-of, unknown, treeOf, size, depth}
 use Rattle.formula.specs.Spells.{run, Spells}
 use Rattle.formula.specs.Formula.{Formula}
+use Rattle.formula.specs.Table.{ruleOf}
 use Rattle.formula.proofs.Trees.{some-inj, none-some, tree-spells}
 use Rattle.formula.proofs.Walks.{both-true}
 use Rattle.monitor.specs.declared.range.AnchorRange.{AnchorRange}
@@ -22,7 +23,7 @@ use Rattle.monitor.specs.declared.node.MonNode.the-variants.{RangeCheck, Delaye
 use Rattle.monitor.specs.declared.node.Row.{Row}
 use Rattle.monitor.specs.declared.node.Row.the-variants.{Node, Unknown}
 use Rattle.monitor.specs.Mon.{Signal, Check, range-check, delayed-check, obligation, Mon, check, And, Or}
-use Rattle.monitor.specs.Table.{formAt, cell, rowOf, rangeFrom, exprFrom, pickRow, signalOf, Never, Join, join-and, join-or, Cell, checked, cellOf, cellAt, fromTree, keepMon, limitedMon, monOf}
+use Rattle.monitor.specs.Table.{formAt, cell, rowOf, rangeFrom, exprFrom, pickRow, signalOf, Never, Join, join-and, join-or, Cell, checked, cellOf, cellAt, fromTree, keepMon, limitedMon, monOf, monBy, compiledOf}
 use Rattle.plan.specs.Layout.{nothing, register, owing, checkPiece, pieces, total, bits}
 use Rattle.plan.specs.Rows.{pieceOf, rowPiece, rowPieces, rowBits, Part}
 use Rattle.plan.specs.declared.layout.Piece.{Piece}
@@ -159,3 +160,20 @@ module _ (f : Formula) (first : ℕ) where
           let (b, p) = keep-inv (leb ncount 256 && leb (7 * (nfirst + ncount)) (length nodes)) _ m e in
           let (x, y) = both-true (leb ncount 256) _ b in
           record { few = leb-true _ _ x; inside = leb-true _ _ y }
+
+-- ---- the two tables together
+module _ (ops nums : List ℕ) (first count : ℕ) (nodes : List ℕ) (nfirst ncount : ℕ) (m : Mon) where
+  by-rule : (o : Option Formula) → monBy o first nodes nfirst ncount ≡ some m → (f : Formula) × (monOf f first nodes nfirst ncount ≡ some m)
+  by-rule none e = none-some e
+  by-rule (some f) e = (f, e)
+
+  module _ (e : compiledOf ops nums first count nodes nfirst ncount ≡ some m) where
+    pub over-formula : (f : Formula) × (monOf f first nodes nfirst ncount ≡ some m)
+    unfolding compiledOf
+    over-formula = by-rule (ruleOf ops nums first count) e
+
+    pub table-bits : rowBits nodes nfirst ncount ≡ bits m
+    table-bits = let (f, u) = over-formula in rows-bits f first nodes nfirst ncount m u
+
+    pub table-part : Part nodes nfirst ncount
+    table-part = let (f, u) = over-formula in compiled-part f first nodes nfirst ncount m u

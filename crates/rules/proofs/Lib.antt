@@ -2,3 +2,6 @@
 pub mod Refusals
 pub mod Entries
 pub mod Tables
+pub mod Likes
+pub mod Layouts
+pub mod Tells

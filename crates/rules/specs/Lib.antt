@@ -2,3 +2,4 @@
 pub mod Rules
 pub mod Tabled
 pub mod Made
+pub mod Answers
