@@ -1,0 +1,2 @@
+-- The laws of writing reports.
+pub mod Reports

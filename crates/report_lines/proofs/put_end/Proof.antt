@@ -1,0 +1,33 @@
+use Rattle.report_lines.proofs.Reports.{end-wrote}
+use borrow.Author.Needs.{needs}
+use Rattle.report_lines.proofs.put_end.Statement.{statement}
+use Rattle.report_lines.proofs.put_end.Tie as tie
+use Rattle.report_lines.proofs.put_end.Reads as reads
+use Rattle.report_lines.proofs.put_end.Lts as lts
+use Rattle.lines.proofs.field.put_number.Reads as put-number-reads
+use Rattle.lines.proofs.field.put_text.Reads as put-text-reads
+
+-- src/lib.rt:26:31
+slice-aggregate-put-text : tie.Need-slice-aggregate-put-text
+slice-aggregate-put-text c = search needs
+
+-- src/lib.rt:26:9
+put-text-requires : tie.Need-put-text-requires
+put-text-requires c κs = search needs
+
+-- src/lib.rt:27:5
+put-number-requires : tie.Need-put-number-requires
+put-number-requires c κs = search needs
+
+-- src/lib.rt:23:1
+same-length : tie.Need-same-length
+same-length c = search needs
+
+-- src/lib.rt:23:1
+returns : tie.Need-returns
+returns c = search (needs, end-wrote)
+
+pub put-end-spec : {M : Type 1} → statement M
+put-end-spec =
+    tie.close
+    (tie.spec slice-aggregate-put-text put-text-requires put-number-requires same-length returns)
