@@ -1,0 +1,7 @@
+-- The laws of stepping a book's rules.
+pub mod Refusals
+pub mod Holds
+pub mod Turns
+pub mod Lines
+pub mod Steps
+pub mod Runs

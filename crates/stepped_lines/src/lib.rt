@@ -1,0 +1,185 @@
+// The step lines of a book: each rule that compiles is stepped once for each line, and its first alarm is reported.
+use reader::steps::StepRead;
+use reader::steps::next_step;
+use report_lines::put_report;
+use stepping::walk::step_node;
+ghost use Rattle.stepping.specs.Memory.{Memory};
+ghost use Rattle.stepping.specs.Walk.{Walkable};
+ghost use Rattle.text.specs.Tape.{tape};
+ghost use Rattle.stepped_lines.specs.Stepped.{RuleStepped, Due, OneStepped, LineDue, LineStepped, LinesDue, LinesStepped};
+
+// The place behind the written lines, and their count.
+pub struct Reported {
+    pub at: usize,
+    pub count: u64,
+}
+
+// The monitor whose root is at entry k: whether it is newly failed at this step.
+fn step_rule(
+    ops: &[u8],
+    nums: &[u64],
+    nodes: &[u64],
+    held: &mut [bool],
+    remaining: &mut [u64],
+    failed: &mut [bool],
+    culprits: &mut [i64],
+    k: usize,
+    s: u64,
+    w: u64,
+) -> bool
+    requires { ⌜ Walkable (now ops) (now nums) (now nodes) 0 (record { held = now held; remaining = now remaining; failed = now failed; culprits = now culprits }) k s ⌝ }
+    ensures { λ r. ⌜ RuleStepped (now (ops .entry)) (now (nums .entry)) (now (nodes .entry)) (record { held = now (held .entry); remaining = now (remaining .entry); failed = now (failed .entry); culprits = now (culprits .entry) }) k s w (record { held = now (held .exit); remaining = now (remaining .exit); failed = now (failed .exit); culprits = now (culprits .exit) }) r ⌝ }
+{
+    let before = failed[k];
+    step_node(
+        ops,
+        nums,
+        nodes,
+        0,
+        held,
+        remaining,
+        failed,
+        culprits,
+        k,
+        s,
+        w,
+    );
+    if before {
+        return false;
+    }
+    failed[k]
+}
+
+// Rule r at a step line: a rule that does not compile is left out.
+fn report_rule(
+    ops: &[u8],
+    nums: &[u64],
+    nodes: &[u64],
+    nfirsts: &[usize],
+    refusals: &[u64],
+    n: usize,
+    r: usize,
+    held: &mut [bool],
+    remaining: &mut [u64],
+    failed: &mut [bool],
+    culprits: &mut [i64],
+    s: u64,
+    w: u64,
+    out: &mut [u8],
+    at: usize,
+) -> Reported
+    requires { ⌜ Due (now ops) (now nums) (now nodes) (now nfirsts) (now refusals) n r (record { held = now held; remaining = now remaining; failed = now failed; culprits = now culprits }) s w ⌝ }
+    ensures { λ p. ⌜ OneStepped (now (ops .entry)) (now (nums .entry)) (now (nodes .entry)) (now (nfirsts .entry)) (now (refusals .entry)) n r (record { held = now (held .entry); remaining = now (remaining .entry); failed = now (failed .entry); culprits = now (culprits .entry) }) s w (tape (now (out .entry)) at) (record { held = now (held .exit); remaining = now (remaining .exit); failed = now (failed .exit); culprits = now (culprits .exit) }) (tape (now (out .exit)) (p .at)) (p .count) ⌝ }
+{
+    if refusals[r] != 0 {
+        return Reported { at, count: 0 };
+    }
+    let k = nfirsts[r];
+    let broken = step_rule(ops, nums, nodes, held, remaining, failed, culprits, k, s, w);
+    if broken {
+        let place = put_report(out, at, s, r as u64, culprits[k]);
+        return Reported {
+            at: place,
+            count: 1,
+        };
+    }
+    Reported { at, count: 0 }
+}
+
+// The first n rules at a step line, in their order.
+pub fn step_rules(
+    ops: &[u8],
+    nums: &[u64],
+    nodes: &[u64],
+    nfirsts: &[usize],
+    refusals: &[u64],
+    n: usize,
+    held: &mut [bool],
+    remaining: &mut [u64],
+    failed: &mut [bool],
+    culprits: &mut [i64],
+    s: u64,
+    w: u64,
+    out: &mut [u8],
+    at: usize,
+) -> Reported
+    requires { ⌜ LineDue (now ops) (now nums) (now nodes) (now nfirsts) (now refusals) n (record { held = now held; remaining = now remaining; failed = now failed; culprits = now culprits }) s ⌝ }
+    ensures { λ p. ⌜ LineStepped (now (ops .entry)) (now (nums .entry)) (now (nodes .entry)) (now (nfirsts .entry)) (now (refusals .entry)) n (record { held = now (held .entry); remaining = now (remaining .entry); failed = now (failed .entry); culprits = now (culprits .entry) }) s w (tape (now (out .entry)) at) (record { held = now (held .exit); remaining = now (remaining .exit); failed = now (failed .exit); culprits = now (culprits .exit) }) (tape (now (out .exit)) (p .at)) (p .count) ⌝ }
+{
+    let mut place = at;
+    let mut count: u64 = 0;
+    let mut r: usize = 0;
+    while r < n {
+        let p = report_rule(
+            ops,
+            nums,
+            nodes,
+            nfirsts,
+            refusals,
+            n,
+            r,
+            held,
+            remaining,
+            failed,
+            culprits,
+            s,
+            w,
+            out,
+            place,
+        );
+        place = p.at;
+        count += p.count;
+        r += 1;
+    }
+    Reported { at: place, count }
+}
+
+// The step lines of a text from a place on.
+pub fn put_reports(
+    text: &[u8],
+    from: usize,
+    ops: &[u8],
+    nums: &[u64],
+    nodes: &[u64],
+    nfirsts: &[usize],
+    refusals: &[u64],
+    n: usize,
+    held: &mut [bool],
+    remaining: &mut [u64],
+    failed: &mut [bool],
+    culprits: &mut [i64],
+    out: &mut [u8],
+    at: usize,
+) -> Reported
+    requires { ⌜ LinesDue (now text) (now ops) (now nums) (now nodes) (now nfirsts) (now refusals) n (record { held = now held; remaining = now remaining; failed = now failed; culprits = now culprits }) ⌝ }
+    ensures { λ p. ⌜ LinesStepped (now (text .entry)) from (now (ops .entry)) (now (nums .entry)) (now (nodes .entry)) (now (nfirsts .entry)) (now (refusals .entry)) n (record { held = now (held .entry); remaining = now (remaining .entry); failed = now (failed .entry); culprits = now (culprits .entry) }) (tape (now (out .entry)) at) (tape (now (out .exit)) (p .at)) (p .count) ⌝ }
+{
+    let mut place = at;
+    let mut count: u64 = 0;
+    let mut cursor = from;
+    loop {
+        let read = next_step(text, cursor);
+        let StepRead::Step { step, truths, next } = read else {
+            return Reported { at: place, count };
+        };
+        let p = step_rules(
+            ops,
+            nums,
+            nodes,
+            nfirsts,
+            refusals,
+            n,
+            held,
+            remaining,
+            failed,
+            culprits,
+            step,
+            truths,
+            out,
+            place,
+        );
+        place = p.at;
+        count += p.count;
+        cursor = next;
+    }
+}
