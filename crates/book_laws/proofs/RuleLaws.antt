@@ -180,6 +180,47 @@ all-at ts (f ∷ fs) [] k a h = absurd a
 all-at ts (f ∷ fs) (c ∷ cs) zero a h = a .0
 all-at ts (f ∷ fs) (c ∷ cs) (suc k) a h = all-at ts fs cs k (a .1) (omega arith)
 
+-- ---- the rules stand one behind the other: from a place on, up to an end
+pub Stacked : ℕ → ℕ → List ℕ → List ℕ → Type 0
+Stacked a e [] [] = a ≡ e
+Stacked a e [] (c ∷ cs) = ⊥
+Stacked a e (f ∷ fs) [] = ⊥
+Stacked a e (f ∷ fs) (c ∷ cs) = (f ≡ a) × Stacked (a + c) e fs cs
+
+stacked-snoc : (a f c : ℕ) (fs cs : List ℕ) → Stacked a f fs cs → Stacked a (f + c) (fs ++ f ∷ []) (cs ++ c ∷ [])
+unfolding Stacked
+stacked-snoc a f c [] [] s = (sym s, ap (λ (n : ℕ). n + c) s)
+stacked-snoc a f c [] (d ∷ cs) s = absurd s
+stacked-snoc a f c (g ∷ fs) [] s = absurd s
+stacked-snoc a f c (g ∷ fs) (d ∷ cs) s = (s .0, stacked-snoc (a + d) f c fs cs (s .1))
+
+pub stacked-sum : (a e : ℕ) (fs cs : List ℕ) → Stacked a e fs cs → a ≤ e
+unfolding Stacked
+stacked-sum a e [] [] s = omega (arith, s)
+stacked-sum a e [] (c ∷ cs) s = absurd s
+stacked-sum a e (f ∷ fs) [] s = absurd s
+stacked-sum a e (f ∷ fs) (c ∷ cs) s = omega (arith, stacked-sum (a + c) e fs cs (s .1))
+
+-- the next rule's first place is where a rule ends
+pub stacked-next : (a e : ℕ) (fs cs : List ℕ) (r : ℕ) → Stacked a e fs cs → r + 1 < length fs → getD fs r 0 + getD cs r 0 ≡ getD fs (r + 1) 0
+unfolding Stacked
+stacked-next a e [] cs r s h = absurd (omega arith)
+stacked-next a e (f ∷ fs) [] r s h = absurd s
+stacked-next a e (f ∷ []) (c ∷ cs) r s h = absurd (omega arith)
+stacked-next a e (f ∷ g ∷ fs) (c ∷ []) r s h = absurd (s .1)
+stacked-next a e (f ∷ g ∷ fs) (c ∷ d ∷ cs) zero s h = ap (λ (n : ℕ). n + c) (s .0) ∙ sym (s .1 .0)
+stacked-next a e (f ∷ g ∷ fs) (c ∷ d ∷ cs) (suc r) s h =
+    let z : suc r + 1 ≡ suc (r + 1) = omega arith in
+    stacked-next (a + c) e (g ∷ fs) (d ∷ cs) r (s .1) (omega arith) ∙ sym (ap (λ (n : ℕ). getD (f ∷ g ∷ fs) n 0) z)
+
+-- and every rule ends by the end
+pub stacked-inside : (a e : ℕ) (fs cs : List ℕ) (r : ℕ) → Stacked a e fs cs → r < length fs → getD fs r 0 + getD cs r 0 ≤ e
+unfolding Stacked
+stacked-inside a e [] cs r s h = absurd (omega arith)
+stacked-inside a e (f ∷ fs) [] r s h = absurd s
+stacked-inside a e (f ∷ fs) (c ∷ cs) zero s h = omega (arith, s .0, stacked-sum (a + c) e fs cs (s .1))
+stacked-inside a e (f ∷ fs) (c ∷ cs) (suc r) s h = stacked-inside (a + c) e fs cs r (s .1) (omega arith)
+
 -- ---- the book so far: whole rules, and at most one in hand
 abbrev nodesOf : Book → List Node
 nodesOf b = toks (b .ops) (b .nums)
@@ -187,6 +228,7 @@ nodesOf b = toks (b .ops) (b .nums)
 pub record Whole (b : Book) : Type 0 where
   pub none-due : b .due ≡ []
   pub rules : AllRules (nodesOf b) (b .firsts) (b .counts)
+  pub stacked : Stacked 0 (length (b .ops)) (b .firsts) (b .counts)
 
 pub record InHand (b : Book) : Type 0 where
   pub some-due : isNil (b .due) ≡ false
@@ -198,14 +240,15 @@ pub record InHand (b : Book) : Type 0 where
   pub counts-is : b .counts ≡ counts ++ own ∷ []
   pub ends : first + own ≡ length (b .ops)
   pub rules : AllRules (nodesOf b) firsts counts
+  pub stacked : Stacked 0 first firsts counts
   pub opens : Opens (drop first (nodesOf b)) (b .due)
 
 abbrev Ruled : Book → Type 0
 Ruled b = mathlib.Core.Logic._⊎_ (Whole b) (InHand b)
 
 ruled-empty : Ruled empty
-unfolding AllRules toks
-ruled-empty = mathlib.Core.Logic.inl (record { none-due = refl; rules = tt })
+unfolding AllRules toks Stacked
+ruled-empty = mathlib.Core.Logic.inl (record { none-due = refl; rules = tt; stacked = refl })
 
 pub bump-snoc : (cs : List ℕ) (c : ℕ) → bump (cs ++ c ∷ []) ≡ cs ++ suc c ∷ []
 unfolding bump
@@ -239,6 +282,7 @@ rule-ruled n b l k s w = mathlib.Core.Logic.inr (record {
   counts-is = refl;
   ends = omega arith;
   rules = w .rules;
+  stacked = w .stacked;
   opens = subst (λ (x : List Node). Opens x (1 ∷ [])) (sym (drop-all (nodesOf b) (length (b .ops)) (toks-long (b .ops) (b .nums) (s .nums-long)))) opens-first;
 })
   where
@@ -267,18 +311,19 @@ node-ruled n b op v s i ok p =
     let own : i .own < 256 = subst (λ (x : ℕ). x < 256) (ap lastOf (i .counts-is) ∙ last-of (i .counts) (i .own)) lo in
     let size : length (b .ops ++ op ∷ []) ≡ length (b .ops) + 1 = length-append (b .ops) (op ∷ []) in
     let new-long : length (toks (b .ops ++ op ∷ []) (b .nums ++ v ∷ [])) ≡ length (b .ops) + 1 = ap length next ∙ length-append ts (node op v ∷ []) ∙ ap (λ (x : ℕ). x + 1) long in
-    go (add n b (spec.node op v)) (i .first) (i .own) (i .firsts) (i .counts) (spend op (b .due)) refl (i .firsts-is) counts (size ∙ omega (arith, i .ends)) own (new-long ∙ omega (arith, i .ends)) rules opens
+    go (add n b (spec.node op v)) (i .first) (i .own) (i .firsts) (i .counts) (spend op (b .due)) refl (i .firsts-is) counts (size ∙ omega (arith, i .ends)) own (new-long ∙ omega (arith, i .ends)) rules (i .stacked) opens
   where
-    go : (c : Book) (first own : ℕ) (fs cs due : List ℕ) → c .due ≡ due → c .firsts ≡ fs ++ first ∷ [] → c .counts ≡ cs ++ suc own ∷ [] → length (c .ops) ≡ first + suc own → own < 256 → length (nodesOf c) ≡ first + suc own → AllRules (nodesOf c) fs cs → Opens (drop first (nodesOf c)) due → Ruled c
-    go c first own fs cs [] d f k l o m a w = mathlib.Core.Logic.inl (record {
+    go : (c : Book) (first own : ℕ) (fs cs due : List ℕ) → c .due ≡ due → c .firsts ≡ fs ++ first ∷ [] → c .counts ≡ cs ++ suc own ∷ [] → length (c .ops) ≡ first + suc own → own < 256 → length (nodesOf c) ≡ first + suc own → AllRules (nodesOf c) fs cs → Stacked 0 first fs cs → Opens (drop first (nodesOf c)) due → Ruled c
+    go c first own fs cs [] d f k l o m a u w = mathlib.Core.Logic.inl (record {
       none-due = d;
       rules = subst (λ (x : List ℕ). AllRules (nodesOf c) x (c .counts)) (sym f) (subst (λ (x : List ℕ). AllRules (nodesOf c) (fs ++ first ∷ []) x) (sym k) (all-snoc (nodesOf c) fs cs first (suc own) a (record {
         few = o;
         inside = omega arith;
         formulated = subst Formulated (sym (lib.Seq.take-all (suc own) (drop first (nodesOf c)) (omega (arith, length-drop first (nodesOf c))))) (opens-done (drop first (nodesOf c)) w);
       })));
+      stacked = subst (λ (n : ℕ). Stacked 0 n (c .firsts) (c .counts)) (sym l) (subst (λ (x : List ℕ). Stacked 0 (first + suc own) x (c .counts)) (sym f) (subst (Stacked 0 (first + suc own) (fs ++ first ∷ [])) (sym k) (stacked-snoc 0 first (suc own) fs cs u)));
     })
-    go c first own fs cs (h ∷ r) d f k l o m a w = mathlib.Core.Logic.inr (record {
+    go c first own fs cs (h ∷ r) d f k l o m a u w = mathlib.Core.Logic.inr (record {
       some-due = ap isNil d;
       firsts = fs;
       counts = cs;
@@ -288,6 +333,7 @@ node-ruled n b op v s i ok p =
       counts-is = k;
       ends = sym l;
       rules = a;
+      stacked = u;
       opens = subst (Opens (drop first (nodesOf c))) (sym d) w;
     })
 
@@ -301,14 +347,15 @@ ruled-by n b wrong-node s r k p = r
 ruled-by n b (step u w) s r k p = step-ruled b n u w r
   where
     step-ruled : (b : Book) (n u w : ℕ) → Ruled b → Ruled (add n b (step u w))
-    step-ruled b n u w (mathlib.Core.Logic.inl x) = mathlib.Core.Logic.inl (record { none-due = x .none-due; rules = x .rules })
-    step-ruled b n u w (mathlib.Core.Logic.inr x) = mathlib.Core.Logic.inr (record { some-due = x .some-due; firsts = x .firsts; counts = x .counts; first = x .first; own = x .own; firsts-is = x .firsts-is; counts-is = x .counts-is; ends = x .ends; rules = x .rules; opens = x .opens })
+    step-ruled b n u w (mathlib.Core.Logic.inl x) = mathlib.Core.Logic.inl (record { none-due = x .none-due; rules = x .rules; stacked = x .stacked })
+    step-ruled b n u w (mathlib.Core.Logic.inr x) = mathlib.Core.Logic.inr (record { some-due = x .some-due; firsts = x .firsts; counts = x .counts; first = x .first; own = x .own; firsts-is = x .firsts-is; counts-is = x .counts-is; ends = x .ends; rules = x .rules; stacked = x .stacked; opens = x .opens })
 ruled-by n b wrong-step s r k p = r
 
 -- ---- the fold
 pub record Done (c : Book) : Type 0 where
   pub sound : Sound c
   pub rules : AllRules (nodesOf c) (c .firsts) (c .counts)
+  pub stacked : Stacked 0 (length (c .ops)) (c .firsts) (c .counts)
 
 accepted-refused : {B : Type 0} {b : Book} {n k : ℕ} → refused n k ≡ accepted b → B
 accepted-refused e = let z : _≡_ {A = ℕ} 0 1 = cc in absurd (omega arith)
@@ -318,7 +365,7 @@ unfolding readOn
 ruled-all b c k [] s r e = go (whole b) refl e
   where
     go : (t : Bool) → whole b ≡ t → pick t (accepted b) (refused 10 k) ≡ accepted c → Done c
-    go true w e = subst Done (accepted-inj e) (record { sound = s; rules = whole-nil b w r .rules })
+    go true w e = subst Done (accepted-inj e) (record { sound = s; rules = whole-nil b w r .rules; stacked = whole-nil b w r .stacked })
     go false w e = accepted-refused e
 ruled-all b c k (l ∷ ls) s r e =
     let (o, a) = unless-none (fault b (parse l)) k _ c e in
@@ -327,12 +374,45 @@ ruled-all b c k (l ∷ ls) s r e =
 pub accepted-done : (text : List ℕ) (b : Book) → read text ≡ accepted b → Done b
 accepted-done text b e = ruled-all empty b 0 (lines text) sound-empty ruled-empty (accepted-lines text b e)
 
+-- ---- a rule's formula, in the book's own formula table and with anything behind it
+module _ (b : Book) (d : Done b) (k : ℕ) (h : k < length (b .labels)) where
+  in-firsts : k < length (b .firsts)
+  in-firsts = subst (λ (n : ℕ). k < n) (sym (d .sound .firsts-long)) h
+
+  is-rule : IsRule (nodesOf b) (getD (b .firsts) k 0) (getD (b .counts) k 0)
+  is-rule = all-at (nodesOf b) (b .firsts) (b .counts) k (d .rules) in-firsts
+
+  pub formula-at : Formula
+  formula-at = is-rule .formulated .formula
+
+  pub rule-at : (x y : List ℕ) → Rule (b .ops ++ x) (b .nums ++ y) (getD (b .firsts) k 0) (getD (b .counts) k 0) formula-at
+  unfolding formula-at
+  rule-at x y =
+      let s : Sound b = d .sound in
+      let u : IsRule (nodesOf b) (getD (b .firsts) k 0) (getD (b .counts) k 0) = is-rule in
+      let first : ℕ = getD (b .firsts) k 0 in
+      let count : ℕ = getD (b .counts) k 0 in
+      let f : Formula = u .formulated .formula in
+      let long : length (nodesOf b) ≡ length (b .ops) = toks-long (b .ops) (b .nums) (s .nums-long) in
+      let inside : first + count ≤ length (b .ops) = subst (λ (n : ℕ). first + count ≤ n) long (u .inside) in
+      let ran : run (nodeAt (b .ops ++ x) (b .nums ++ y)) first count ≡ prefix f = run-toks (b .ops) (b .nums) x y first count (s .nums-long) inside ∙ u .formulated .is in
+      let sized : size f ≡ count = sym (prefix-length f) ∙ ap length (sym (u .formulated .is)) ∙ length-take-le count (drop first (nodesOf b)) (omega (arith, length-drop first (nodesOf b), u .inside)) in
+      record {
+        few = u .few;
+        in-ops = omega (arith, length-append (b .ops) x);
+        in-nums = omega (arith, length-append (b .nums) y, s .nums-long);
+        spells = run-spells (nodeAt (b .ops ++ x) (b .nums ++ y)) first f (ap (run (nodeAt (b .ops ++ x) (b .nums ++ y)) first) sized ∙ ran);
+        covers = sized;
+        shallow = u .formulated .shallow;
+        in-word = u .formulated .in-word;
+      }
+
 -- ---- in the tables
-over-at : (xs l : List ℕ) (k : ℕ) → k < length xs → getD (over xs l) k 0 ≡ getD xs k 0
+pub over-at : (xs l : List ℕ) (k : ℕ) → k < length xs → getD (over xs l) k 0 ≡ getD xs k 0
 unfolding over
 over-at xs l k h = List·getD-append xs (drop (length xs) l) 0 k h
 
-into-accepted : (text : List ℕ) (t : Tables) (b : Book) → readInto text t ≡ accepted b → (roomy t ≡ true) × (read text ≡ accepted b)
+pub into-accepted : (text : List ℕ) (t : Tables) (b : Book) → readInto text t ≡ accepted b → (roomy t ≡ true) × (read text ≡ accepted b)
 unfolding readInto
 into-accepted text t b e = go (roomy t) e
   where
@@ -340,32 +420,18 @@ into-accepted text t b e = go (roomy t) e
     go true e = (refl, e)
     go false e = accepted-refused e
 
-pub rules-of-book : (text : List ℕ) (t : Tables) (b : Book) → readInto text t ≡ accepted b → (k : ℕ) → k < length (b .labels) → (f : Formula) × (ruleOf (written b t .ops) (written b t .nums) (getD (written b t .firsts) k 0) (getD (written b t .counts) k 0) ≡ some f)
+pub rule-in-tables : (b : Book) (t : Tables) (d : Done b) (k : ℕ) (h : k < length (b .labels)) → ruleOf (written b t .ops) (written b t .nums) (getD (written b t .firsts) k 0) (getD (written b t .counts) k 0) ≡ some (formula-at b d k h)
 unfolding written over
+rule-in-tables b t d k h =
+    let s : Sound b = d .sound in
+    let ops : List ℕ = over (b .ops) (t .ops) in
+    let nums : List ℕ = over (b .nums) (t .nums) in
+    let first-is : getD (over (b .firsts) (t .firsts)) k 0 ≡ getD (b .firsts) k 0 = over-at (b .firsts) (t .firsts) k (subst (λ (n : ℕ). k < n) (sym (s .firsts-long)) h) in
+    let count-is : getD (over (b .counts) (t .counts)) k 0 ≡ getD (b .counts) k 0 = over-at (b .counts) (t .counts) k (subst (λ (n : ℕ). k < n) (sym (s .counts-long)) h) in
+    ap₂ (ruleOf ops nums) first-is count-is
+    ∙ rule-of ops nums (getD (b .firsts) k 0) (getD (b .counts) k 0) (formula-at b d k h) (rule-at b d k h (drop (length (b .ops)) (t .ops)) (drop (length (b .nums)) (t .nums)))
+
+pub rules-of-book : (text : List ℕ) (t : Tables) (b : Book) → readInto text t ≡ accepted b → (k : ℕ) → k < length (b .labels) → (f : Formula) × (ruleOf (written b t .ops) (written b t .nums) (getD (written b t .firsts) k 0) (getD (written b t .counts) k 0) ≡ some f)
 rules-of-book text t b e k h =
     let (m, a) = into-accepted text t b e in
-    let room : Roomy t = roomy-is t m in
-    let d : Done b = accepted-done text b a in
-    let s : Sound b = d .sound in
-    let in-firsts : k < length (b .firsts) = subst (λ (n : ℕ). k < n) (sym (s .firsts-long)) h in
-    let in-counts : k < length (b .counts) = subst (λ (n : ℕ). k < n) (sym (s .counts-long)) h in
-    let first-is : getD (over (b .firsts) (t .firsts)) k 0 ≡ getD (b .firsts) k 0 = over-at (b .firsts) (t .firsts) k in-firsts in
-    let count-is : getD (over (b .counts) (t .counts)) k 0 ≡ getD (b .counts) k 0 = over-at (b .counts) (t .counts) k in-counts in
-    let u : IsRule (nodesOf b) (getD (b .firsts) k 0) (getD (b .counts) k 0) = all-at (nodesOf b) (b .firsts) (b .counts) k (d .rules) in-firsts in
-    let first : ℕ = getD (b .firsts) k 0 in
-    let count : ℕ = getD (b .counts) k 0 in
-    let f : Formula = u .formulated .formula in
-    let long : length (nodesOf b) ≡ length (b .ops) = toks-long (b .ops) (b .nums) (s .nums-long) in
-    let inside : first + count ≤ length (b .ops) = subst (λ (n : ℕ). first + count ≤ n) long (u .inside) in
-    let ran : run (nodeAt (over (b .ops) (t .ops)) (over (b .nums) (t .nums))) first count ≡ prefix f = run-toks (b .ops) (b .nums) (drop (length (b .ops)) (t .ops)) (drop (length (b .nums)) (t .nums)) first count (s .nums-long) inside ∙ u .formulated .is in
-    let sized : size f ≡ count = sym (prefix-length f) ∙ ap length (sym (u .formulated .is)) ∙ length-take-le count (drop first (nodesOf b)) (omega (arith, length-drop first (nodesOf b), u .inside)) in
-    let r : Rule (over (b .ops) (t .ops)) (over (b .nums) (t .nums)) first count f = record {
-      few = u .few;
-      in-ops = omega (arith, length-append (b .ops) (drop (length (b .ops)) (t .ops)));
-      in-nums = omega (arith, length-append (b .nums) (drop (length (b .nums)) (t .nums)), s .nums-long);
-      spells = run-spells (nodeAt (over (b .ops) (t .ops)) (over (b .nums) (t .nums))) first f (ap (run (nodeAt (over (b .ops) (t .ops)) (over (b .nums) (t .nums))) first) sized ∙ ran);
-      covers = sized;
-      shallow = u .formulated .shallow;
-      in-word = u .formulated .in-word;
-    } in
-    (f, ap₂ (ruleOf (over (b .ops) (t .ops)) (over (b .nums) (t .nums))) first-is count-is ∙ rule-of (over (b .ops) (t .ops)) (over (b .nums) (t .nums)) first count f r)
+    (formula-at b (accepted-done text b a) k h, rule-in-tables b t (accepted-done text b a) k h)

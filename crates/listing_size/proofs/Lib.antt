@@ -1,0 +1,2 @@
+-- Theorems about the listing of a book.
+pub mod BookRules

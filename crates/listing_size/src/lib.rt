@@ -1,0 +1,1 @@
+// Theorems about the listing: what an accepted book hands to it, and how long it can be. No code.
