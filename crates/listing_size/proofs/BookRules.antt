@@ -2,27 +2,23 @@
 --     book-rules, book-size, book-label    each rule is a formula within the limits, of as many nodes as its count; its label has at most 32 bytes
 --     book-next, book-inside               the rules stand one behind the other in the formula table
 --     book-held, label-held                in the tables that reading leaves, the rule list and the formula table hold the rules and their labels
-use mathlib.Core.Path.{_≡_, refl, sym, ap, ap₂, subst, _∙_}
-use mathlib.Core.Bool.{Bool, true}
+use mathlib.Core.Path.{_≡_, sym, ap, ap₂, _∙_}
 use mathlib.Core.List.{List, [], _∷_, _++_, map, append-assoc, append-nil}
-use mathlib.Core.Option.{Option, none, some}
+use mathlib.Core.Option.{some}
 use Prim.Native.Nat.{ℕ, zero, suc, _+_, _*_, _≤_, _<_}
 use native.Mathlib.Omega.{arith}
-use lib.ListN.{length, getD, take, drop, length-append, length-drop, length-map, List·getD-append, List·getD-map}
+use lib.ListN.{length, getD, take, drop, length-append, length-drop, length-map, List·getD-map}
 use lib.Seq.{take-append-seam, drop-append-add}
 use Rattle.formula.specs.Tree.{size}
-use Rattle.formula.specs.Formula.{Formula}
 use Rattle.formula.specs.Table.{ruleOf}
-use Rattle.formula.specs.Table as table
 use Rattle.formula.proofs.Rules.{rule-of, rule-inv}
 use Rattle.book.specs.Book.{Book, accepted, read}
-use Rattle.reader.specs.Tables.{Tables, over, cells, written, roomy, readInto}
+use Rattle.reader.specs.Tables.{Tables, cells, written, readInto}
 use Rattle.reader.specs.Answer.{Roomy}
 use Rattle.reader.proofs.Sounds.{Sound, Short}
 use Rattle.reader.proofs.Columns.{over-long, cells-long}
 use Rattle.reader.proofs.Runs.{roomy-is}
 use Rattle.book_laws.proofs.RuleLaws.{Done, Stacked, stacked-next, stacked-inside, formula-at, rule-at, rule-in-tables, over-at, into-accepted, accepted-done}
-use Rattle.rules.specs.Rules.{Rule}
 use Rattle.rules.specs.Tabled.{Held}
 use Rattle.listing_text.specs.Listing.{formulaOr, ruleAt}
 

@@ -1,2 +1,6 @@
 -- Theorems about the listing of a book.
 pub mod BookRules
+pub mod TextSizes
+pub mod RuleSizes
+pub mod ReportOnce
+pub mod ListingFits

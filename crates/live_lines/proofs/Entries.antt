@@ -100,7 +100,7 @@ module _ (ops nums l : List ℕ) (n k : ℕ) (g : EntriesIn ops nums l n) (h : k
   entry-room-2 = omega (arith, g .room)
 
 -- ---- a whole skeleton
-marks-append : (s t : List Mark) → marksText (s ++ t) ≡ marksText s ++ marksText t
+pub marks-append : (s t : List Mark) → marksText (s ++ t) ≡ marksText s ++ marksText t
 unfolding marksText
 marks-append [] t = refl
 marks-append (m ∷ s) t = ap (λ (x : List ℕ). markText m ++ x) (marks-append s t) ∙ sym (append-assoc (markText m) (marksText s) (marksText t))

@@ -97,7 +97,7 @@ module _ (op : ℕ) (a b : Tape) where
   letter-out g h w = rw (le-ltb op 1 g, le-ltb op 2 h) w
 
 -- ---- a whole formula
-spelled-append : (s t : List Sign) → spelled (s ++ t) ≡ spelled s ++ spelled t
+pub spelled-append : (s t : List Sign) → spelled (s ++ t) ≡ spelled s ++ spelled t
 unfolding spelled
 spelled-append [] t = refl
 spelled-append (x ∷ s) t = ap (λ (y : List ℕ). spell x ++ y) (spelled-append s t) ∙ sym (append-assoc (spell x) (spelled s) (spelled t))
