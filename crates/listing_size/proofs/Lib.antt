@@ -4,3 +4,4 @@ pub mod TextSizes
 pub mod RuleSizes
 pub mod ReportOnce
 pub mod ListingFits
+pub mod WholeCase

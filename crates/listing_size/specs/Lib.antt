@@ -1,2 +1,3 @@
--- The terms of the theorems about a listing's size.
+-- The terms of the theorems about listings: the room that each fits in, and worked ones.
 pub mod Room
+pub mod Worked
