@@ -21,21 +21,20 @@ use Rattle.formula.proofs.Trees.{run-spells, prefix-length}
 use Rattle.formula.proofs.Rules.{rule-of}
 use Rattle.line.specs.Text.{lines, fields, eqbs}
 use Rattle.line.specs.Word.{Entry, wordOf, lookup, vocabulary, fieldCount}
-use Rattle.line.specs.Line.{Line, bad, rule, wrong-rule, wrong-node, step, wrong-step, ruleKind, ruleLine, atomLine, boundLine, stepLine, content, ofFields, parse}
+use Rattle.line.specs.Line.{Line, bad, rule, wrong-rule, wrong-node, step, wrong-step, isLabel, kindOf, ruleKind, ruleLine, atomLine, boundLine, stepLine, content, ofFields, parse}
 use Rattle.line.specs.Line as spec
 use Rattle.line.specs.declared.word.Word.{Word}
 use Rattle.line.specs.declared.word.Word.the-variants as word
 use Rattle.book.specs.Book.{Book, empty, isNil, whole, headOf, lastOf, bump, spend, Fault, fault, add, Outcome, accepted, refused, unless, readOn, read}
 use Rattle.reader.specs.Tables.{Tables, over, written, roomy, readInto}
-use Rattle.reader.specs.Answer.{Roomy}
 use Rattle.reader.proofs.Sounds.{Passed, passed, rules-left, nodes-left, node-inside, Sound, sound-empty, sound-add}
-use Rattle.reader.proofs.Runs.{accepted-lines, accepted-inj, unless-none, roomy-is}
+use Rattle.reader.proofs.Runs.{accepted-lines, accepted-inj, unless-none}
 use Rattle.book_laws.proofs.Formulas.{Formulated, Opens, NodeOk, opens-first, opens-done, opens-node}
 
--- ---- a node's line
+-- ---- a line's numbers: a rule's kind, a node's operation and signal
 abbrev NodeOf : Line → Type 0
 NodeOf bad = Unit
-NodeOf (rule l k) = Unit
+NodeOf (rule l k) = k < 2
 NodeOf wrong-rule = Unit
 NodeOf (spec.node op v) = NodeOk op v
 NodeOf wrong-node = Unit
@@ -70,6 +69,16 @@ pick-node : (t : Bool) (a b : Line) → NodeOf a → NodeOf b → NodeOf (pick t
 pick-node true a b x y = x
 pick-node false a b x y = y
 
+rule-kind : (f g : List ℕ) → NodeOf (ruleLine f g)
+unfolding ruleLine ruleKind kindOf
+rule-kind f g = go (isLabel f) (eqbs g (80 ∷ [])) (eqbs g (65 ∷ []))
+  where
+    go : (a b c : Bool) → NodeOf (pick (eqb (pick a (pick b 0 (pick c 1 2)) 2) 2) wrong-rule (rule f (pick a (pick b 0 (pick c 1 2)) 2)))
+    go true true c = omega arith
+    go true false true = omega arith
+    go true false false = tt
+    go false b c = tt
+
 content-node : (w : Word) (f g : List ℕ) → WordOk w → NodeOf (content w f g)
 unfolding content ruleLine atomLine boundLine stepLine
 content-node (word.Atom op) f g k = go (decimalOf f)
@@ -87,7 +96,7 @@ content-node (word.Bounded op) f g k = go (decimalOf f)
     go : (n : Number) → NodeOf (boundLine op n)
     go Wrong = tt
     go (Value v) = record { known = k .1; signals = λ h. omega (arith, k .0) }
-content-node word.Rule f g k = pick-node (eqb (ruleKind f g) 2) wrong-rule (rule f (ruleKind f g)) tt tt
+content-node word.Rule f g k = rule-kind f g
 content-node word.Step f g k = go (decimalOf f) (hexOf g)
   where
     go : (n m : Number) → NodeOf (stepLine n m)
@@ -351,28 +360,48 @@ ruled-by n b (step u w) s r k p = step-ruled b n u w r
     step-ruled b n u w (mathlib.Core.Logic.inr x) = mathlib.Core.Logic.inr (record { some-due = x .some-due; firsts = x .firsts; counts = x .counts; first = x .first; own = x .own; firsts-is = x .firsts-is; counts-is = x .counts-is; ends = x .ends; rules = x .rules; stacked = x .stacked; opens = x .opens })
 ruled-by n b wrong-step s r k p = r
 
+-- ---- kinds: 0 or 1
+abbrev pub Kinded : List ℕ → Type 0
+Kinded [] = Unit
+Kinded (k ∷ ks) = (k < 2) × Kinded ks
+
+kinded-snoc : (ks : List ℕ) (k : ℕ) → Kinded ks → k < 2 → Kinded (ks ++ k ∷ [])
+kinded-snoc [] k s h = (h, tt)
+kinded-snoc (j ∷ ks) k s h = (s .0, kinded-snoc ks k (s .1) h)
+
+kinded-by : (n : ℕ) (b : Book) (l : Line) → Kinded (b .kinds) → NodeOf l → Kinded (add n b l .kinds)
+unfolding add
+kinded-by n b bad s h = s
+kinded-by n b (rule l k) s h = kinded-snoc (b .kinds) k s h
+kinded-by n b wrong-rule s h = s
+kinded-by n b (spec.node op v) s h = s
+kinded-by n b wrong-node s h = s
+kinded-by n b (step u w) s h = s
+kinded-by n b wrong-step s h = s
+
 -- ---- the fold
 pub record Done (c : Book) : Type 0 where
   pub sound : Sound c
   pub rules : AllRules (nodesOf c) (c .firsts) (c .counts)
   pub stacked : Stacked 0 (length (c .ops)) (c .firsts) (c .counts)
+  pub kinds : Kinded (c .kinds)
 
 accepted-refused : {B : Type 0} {b : Book} {n k : ℕ} → refused n k ≡ accepted b → B
 accepted-refused e = let z : _≡_ {A = ℕ} 0 1 = cc in absurd (omega arith)
 
-ruled-all : (b c : Book) (k : ℕ) (ls : List (List ℕ)) → Sound b → Ruled b → readOn b k ls ≡ accepted c → Done c
+ruled-all : (b c : Book) (k : ℕ) (ls : List (List ℕ)) → Sound b → Ruled b → Kinded (b .kinds) → readOn b k ls ≡ accepted c → Done c
 unfolding readOn
-ruled-all b c k [] s r e = go (whole b) refl e
+ruled-all b c k [] s r kd e = go (whole b) refl e
   where
     go : (t : Bool) → whole b ≡ t → pick t (accepted b) (refused 10 k) ≡ accepted c → Done c
-    go true w e = subst Done (accepted-inj e) (record { sound = s; rules = whole-nil b w r .rules; stacked = whole-nil b w r .stacked })
+    go true w e = subst Done (accepted-inj e) (record { sound = s; rules = whole-nil b w r .rules; stacked = whole-nil b w r .stacked; kinds = kd })
     go false w e = accepted-refused e
-ruled-all b c k (l ∷ ls) s r e =
+ruled-all b c k (l ∷ ls) s r kd e =
     let (o, a) = unless-none (fault b (parse l)) k _ c e in
-    ruled-all (add (length l + 1) b (parse l)) c (k + 1) ls (sound-add (length l + 1) b l s o) (ruled-by (length l + 1) b (parse l) s r (parse-node l) (passed b (parse l) o)) a
+    ruled-all (add (length l + 1) b (parse l)) c (k + 1) ls (sound-add (length l + 1) b l s o) (ruled-by (length l + 1) b (parse l) s r (parse-node l) (passed b (parse l) o)) (kinded-by (length l + 1) b (parse l) kd (parse-node l)) a
 
 pub accepted-done : (text : List ℕ) (b : Book) → read text ≡ accepted b → Done b
-accepted-done text b e = ruled-all empty b 0 (lines text) sound-empty ruled-empty (accepted-lines text b e)
+accepted-done text b e = ruled-all empty b 0 (lines text) sound-empty ruled-empty tt (accepted-lines text b e)
 
 -- ---- a rule's formula, in the book's own formula table and with anything behind it
 module _ (b : Book) (d : Done b) (k : ℕ) (h : k < length (b .labels)) where

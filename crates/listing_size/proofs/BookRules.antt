@@ -1,7 +1,8 @@
 -- WHAT AN ACCEPTED BOOK HANDS TO THE LISTING.
---     book-rules, book-size, book-label    each rule is a formula within the limits, of as many nodes as its count; its label has at most 32 bytes
---     book-next, book-inside               the rules stand one behind the other in the formula table
---     book-held, label-held                in the tables that reading leaves, the rule list and the formula table hold the rules and their labels
+--     book-rules, book-size     each rule is a formula within the limits, of as many nodes as its count
+--     book-label, book-kind     its label has at most 32 bytes, its kind is 0 or 1
+--     book-next, book-inside    the rules stand one behind the other in the formula table
+--     book-held, label-held     in the tables that reading leaves, the rule list and the formula table hold the rules and their labels
 use mathlib.Core.Path.{_≡_, sym, ap, ap₂, _∙_}
 use mathlib.Core.List.{List, [], _∷_, _++_, map, append-assoc, append-nil}
 use mathlib.Core.Option.{some}
@@ -18,7 +19,7 @@ use Rattle.reader.specs.Answer.{Roomy}
 use Rattle.reader.proofs.Sounds.{Sound, Short}
 use Rattle.reader.proofs.Columns.{over-long, cells-long}
 use Rattle.reader.proofs.Runs.{roomy-is}
-use Rattle.book_laws.proofs.RuleLaws.{Done, Stacked, stacked-next, stacked-inside, formula-at, rule-at, rule-in-tables, over-at, into-accepted, accepted-done}
+use Rattle.book_laws.proofs.RuleLaws.{Done, Stacked, Kinded, stacked-next, stacked-inside, formula-at, rule-at, rule-in-tables, over-at, into-accepted, accepted-done}
 use Rattle.rules.specs.Tabled.{Held}
 use Rattle.listing_text.specs.Listing.{formulaOr, ruleAt}
 
@@ -37,6 +38,11 @@ short-at : (xs : List (List ℕ)) (r : ℕ) → Short xs → r < length xs → l
 short-at [] r s h = absurd (omega arith)
 short-at (x ∷ xs) zero s h = s .0
 short-at (x ∷ xs) (suc r) s h = short-at xs r (s .1) (omega arith)
+
+kinded-at : (ks : List ℕ) (r : ℕ) → Kinded ks → getD ks r 0 < 2
+kinded-at [] r s = omega arith
+kinded-at (k ∷ ks) zero s = s .0
+kinded-at (k ∷ ks) (suc r) s = kinded-at ks r (s .1)
 
 module _ (text : List ℕ) (b : Book) (e : read text ≡ accepted b) where
   pub few-rules : length (b .labels) ≤ 64
@@ -57,6 +63,10 @@ module _ (text : List ℕ) (b : Book) (e : read text ≡ accepted b) where
   pub book-label : (r : ℕ) → r < length (b .labels) → length (ruleAt b r .label) ≤ 32
   unfolding ruleAt
   book-label r h = short-at (b .labels) r (accepted-done text b e .sound .short) h
+
+  pub book-kind : (r : ℕ) → ruleAt b r .kind < 2
+  unfolding ruleAt
+  book-kind r = kinded-at (b .kinds) r (accepted-done text b e .kinds)
 
   pub book-next : (r : ℕ) → r + 1 < length (b .labels) → getD (b .firsts) r 0 + getD (b .counts) r 0 ≡ getD (b .firsts) (r + 1) 0
   book-next r h = stacked-next 0 (length (b .ops)) (b .firsts) (b .counts) r stacked (omega (arith, h, accepted-done text b e .sound .firsts-long))

@@ -1,0 +1,10 @@
+-- How often a list of reports names a rule: at most once, by `each-once` (proofs/ReportOnce.antt).
+use mathlib.Core.List.{List, [], _∷_}
+use Prim.Native.Nat.{ℕ, _+_}
+use lib.Dec.{eqb}
+use Rattle.number.specs.Number.{pick}
+use Rattle.listing_text.specs.Listing.{Report}
+
+abbrev pub timesOf : ℕ → List Report → ℕ
+timesOf r [] = 0
+timesOf r (p ∷ ps) = pick (eqb (p .rule) r) 1 0 + timesOf r ps
