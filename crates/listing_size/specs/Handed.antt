@@ -1,0 +1,25 @@
+-- What reading hands to the listing: tables that hold a book's rules, and the place where its step lines begin. `handed` (proofs/Handing.antt): so it
+-- is after `read_book` has answered with counts of rules and nodes and that place.
+use mathlib.Core.Path.{_≡_}
+use mathlib.Core.List.{List}
+use Prim.Native.Nat.{ℕ, _+_, _*_, _≤_, _<_}
+use lib.ListN.{length, getD, take, drop}
+use Rattle.book.specs.Book.{Book, accepted, read}
+use Rattle.reader.specs.Tables.{Tables}
+use Rattle.reader.specs.Steps.{stepsFrom}
+use Rattle.rules.specs.Tabled.{Held}
+use Rattle.listing_text.specs.Listing.{ruleAt, rulesListing, listing}
+
+pub record Handed (text : List ℕ) (t : Tables) (rules steps-at : ℕ) : Type 0 where
+  pub book : Book
+  pub is : read text ≡ accepted book
+  pub rules-is : rules ≡ length (book .labels)
+  pub held : Held (t .ops) (t .nums) (t .kinds) (t .firsts) (t .counts) (ruleAt book) rules
+  -- rule r's label: the first of its own 32 bytes
+  pub len : (r : ℕ) → r < rules → getD (t .lens) r 0 ≡ length (ruleAt book r .label)
+  pub label : (r : ℕ) → r < rules → take (getD (t .lens) r 0) (drop (32 * r) (t .labels)) ≡ ruleAt book r .label
+  pub in-label : (r : ℕ) → r < rules → 32 * r + getD (t .lens) r 0 ≤ 2048
+  pub in-labels : 2048 ≤ length (t .labels)
+  pub in-lens : 64 ≤ length (t .lens)
+  -- the text's listing, by the rules and the steps from that place on
+  pub lists : listing text ≡ rulesListing (ruleAt book) rules (stepsFrom text steps-at)
