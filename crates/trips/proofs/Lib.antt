@@ -1,2 +1,3 @@
--- The theorem of the table.
+-- The theorem of the table, and a law of the program.
+pub mod Casts
 pub mod Trips

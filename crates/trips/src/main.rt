@@ -1,0 +1,370 @@
+// Runs the trips of document 01 as any caller would: the book of each is read, its rule compiled, laid out, stepped from a fresh monitor and
+// split, and what the calls answer is printed, one line a trip.
+use compiler::Compiled;
+use compiler::compile_formula;
+use layout::rule::RuleBits;
+use layout::rule::rule_layout;
+use libc::STDOUT_FILENO;
+use reader::read::Answer;
+use reader::read::read_book;
+use reader::steps::StepRead;
+use reader::steps::next_step;
+use split::parts::Liveness;
+use split::parts::split;
+use stepping::call::Verdict;
+use stepping::call::step;
+use stepping::fresh::Outcome;
+use stepping::fresh::fresh;
+
+fn put(s: &[u8]) {
+    io::write_all(STDOUT_FILENO, s);
+}
+
+// A number behind a word.
+fn show(word: &[u8], n: u64) {
+    put(word);
+    io::print_decimal(STDOUT_FILENO, n);
+}
+
+fn show_culprit(c: i64) {
+    if c < 0 {
+        if c < -1 {
+            put(b" culprit below -1");
+            return;
+        }
+        put(b" culprit -1");
+        return;
+    }
+    show(b" culprit ", c as u64);
+}
+
+// The culprit of the root.
+fn root_culprit(culprits: &[i64]) -> i64 {
+    if culprits.len() == 0 {
+        return -1;
+    }
+    culprits[0]
+}
+
+// One call's answer; whether there is a report up to it.
+fn show_verdict(verdict: Verdict, s: u64, culprit: i64, reported: bool) -> bool {
+    match verdict {
+        Verdict::Refused(n) => {
+            show(b", step refused ", n);
+            return reported;
+        }
+        Verdict::Accepted(now) => {
+            if now {
+                show(b", report ", s);
+                show_culprit(culprit);
+                return true;
+            }
+            return reported;
+        }
+    }
+}
+
+// The steps of the book, at most 100, each handed to the monitor; whether one was reported.
+fn step_all(
+    text: &[u8],
+    steps_at: usize,
+    ops: &[u8],
+    nums: &[u64],
+    first: usize,
+    count: usize,
+    nodes: &[u64],
+    ncount: usize,
+    size: usize,
+    forms: &[u64],
+    bounds: &[u64],
+    held: &mut [bool],
+    remaining: &mut [u64],
+    failed: &mut [bool],
+    culprits: &mut [i64],
+) -> bool {
+    let mut reported = false;
+    let mut at = steps_at;
+    let mut left: usize = 100;
+    while 0 < left {
+        match next_step(text, at) {
+            StepRead::End => return reported,
+            StepRead::Step {
+                step: s,
+                truths,
+                next,
+            } => {
+                let verdict = step(
+                    ops,
+                    nums,
+                    first,
+                    count,
+                    nodes,
+                    0,
+                    ncount,
+                    size,
+                    forms,
+                    bounds,
+                    held,
+                    remaining,
+                    failed,
+                    culprits,
+                    s,
+                    truths,
+                );
+                reported = show_verdict(verdict, s, root_culprit(culprits), reported);
+                at = next;
+                left -= 1;
+            }
+        }
+    }
+    reported
+}
+
+// The reports of a compiled rule, from its fresh monitor.
+fn show_reports(
+    text: &[u8],
+    steps_at: usize,
+    ops: &[u8],
+    nums: &[u64],
+    first: usize,
+    count: usize,
+    nodes: &[u64],
+    ncount: usize,
+) {
+    let mut forms = [0u64; 256];
+    let mut bounds = [0u64; 256];
+    let mut held = [false; 256];
+    let mut remaining = [0u64; 256];
+    let mut failed = [false; 256];
+    let mut culprits = [0i64; 256];
+    let made = fresh(
+        ops,
+        nums,
+        first,
+        count,
+        nodes,
+        0,
+        ncount,
+        &mut forms,
+        &mut bounds,
+        &mut held,
+        &mut remaining,
+        &mut failed,
+        &mut culprits,
+    );
+    match made {
+        Outcome::Refused(n) => show(b", monitor refused ", n),
+        Outcome::Made(size) => {
+            if !step_all(
+                text,
+                steps_at,
+                ops,
+                nums,
+                first,
+                count,
+                nodes,
+                ncount,
+                size,
+                &forms,
+                &bounds,
+                &mut held,
+                &mut remaining,
+                &mut failed,
+                &mut culprits,
+            ) {
+                put(b", no report");
+            }
+        }
+    }
+}
+
+// The bits of a compiled rule.
+fn show_bits(ops: &[u8], nums: &[u64], first: usize, count: usize, nodes: &[u64], ncount: usize) {
+    match rule_layout(ops, nums, first, count, nodes, 0, ncount) {
+        RuleBits::Bits(n) => show(b", bits ", n),
+        RuleBits::Refused(n) => show(b", bits refused ", n),
+    }
+}
+
+// The atom at a place: its letter and its signal.
+fn show_atom(ops: &[u8], nums: &[u64], p: u64) {
+    let i = p as usize;
+    if ops.len() <= i {
+        return;
+    }
+    if nums.len() <= i {
+        return;
+    }
+    if ops[i] == 0 {
+        show(b"sv", nums[i]);
+        return;
+    }
+    if ops[i] == 1 {
+        show(b"si", nums[i]);
+        return;
+    }
+    show(b"so", nums[i]);
+}
+
+// One entry of a skeleton: a safety leaf with its place, an obligation with its number, or an operator.
+fn show_entry(ops: &[u8], nums: &[u64], kind: u64, n: u64) {
+    if kind == 0 {
+        show_atom(ops, nums, n);
+        return;
+    }
+    if kind == 1 {
+        show(b"#", n);
+        return;
+    }
+    if kind == 3 {
+        put(b"!");
+        return;
+    }
+    if kind == 9 {
+        put(b"&");
+        return;
+    }
+    if kind == 10 {
+        put(b"|");
+        return;
+    }
+    put(b">");
+}
+
+fn show_entry_at(ops: &[u8], nums: &[u64], skeleton: &[u64], k: usize) {
+    if 256 <= k {
+        return;
+    }
+    let i = 2 * k;
+    if skeleton.len() <= i + 1 {
+        return;
+    }
+    show_entry(ops, nums, skeleton[i], skeleton[i + 1]);
+}
+
+fn show_skeleton(ops: &[u8], nums: &[u64], skeleton: &[u64], n: usize) {
+    let mut k: usize = 0;
+    while k < n {
+        show_entry_at(ops, nums, skeleton, k);
+        k += 1;
+    }
+}
+
+// The split of a property.
+fn show_live(ops: &[u8], nums: &[u64], first: usize, count: usize) {
+    let mut skeleton = [0u64; 512];
+    let mut owed = [0u64; 768];
+    let answer = split(ops, nums, first, count, false, &mut skeleton, &mut owed);
+    match answer {
+        Liveness::None => put(b", live none"),
+        Liveness::Refused(n) => show(b", live ", n),
+        Liveness::Parts {
+            skeleton: n,
+            owed: o,
+        } => {
+            put(b", live 0 skeleton ");
+            show_skeleton(ops, nums, &skeleton, n);
+            show(b" obligations ", o as u64);
+        }
+    }
+}
+
+// The rule of `count` nodes at `first`, over the steps of its book.
+fn run_rule(text: &[u8], steps_at: usize, ops: &[u8], nums: &[u64], first: usize, count: usize) {
+    let mut nodes = [0u64; 1792];
+    match compile_formula(ops, nums, first, count, &mut nodes) {
+        Compiled::Refused(n) => show(b": compile ", n),
+        Compiled::Nodes(n) => {
+            put(b": compile 0");
+            show_bits(ops, nums, first, count, &nodes, n);
+            show_reports(text, steps_at, ops, nums, first, count, &nodes, n);
+        }
+    }
+    show_live(ops, nums, first, count);
+}
+
+// A book of one rule.
+fn run_book(text: &[u8]) {
+    let mut labels = [0u8; 2048];
+    let mut lens = [0usize; 64];
+    let mut kinds = [0u8; 64];
+    let mut firsts = [0usize; 64];
+    let mut counts = [0usize; 64];
+    let mut ops = [0u8; 1024];
+    let mut nums = [0u64; 1024];
+    let answer = read_book(
+        text,
+        &mut labels,
+        &mut lens,
+        &mut kinds,
+        &mut firsts,
+        &mut counts,
+        &mut ops,
+        &mut nums,
+    );
+    match answer {
+        Answer::Refused { number, line } => {
+            show(b": book refused ", number as u64);
+            show(b" line ", line as u64);
+        }
+        Answer::Read {
+            rules: _,
+            nodes: _,
+            steps_at,
+        } => run_rule(text, steps_at, &ops, &nums, firsts[0], counts[0]),
+    }
+}
+
+// The trip whose book has this name in data/.
+fn run(name: &[u8]) {
+    put(name);
+    let fd = os::open_read(name);
+    if fd < 0 {
+        put(b": no book\n");
+        return;
+    }
+    let mut text = io::large_buffer();
+    let got = io::read_full(fd, &mut text);
+    libc::close(fd);
+    run_book(&text[..got]);
+    put(b"\n");
+}
+
+// Those under `always`.
+fn run_always() {
+    run(b"within_0");
+    run(b"within_1");
+    run(b"whole_case");
+    run(b"whole_case_answered");
+    run(b"second_trigger");
+    run(b"one_of_two");
+    run(b"next_step");
+}
+
+// Those that stand alone.
+fn run_alone() {
+    run(b"either_always");
+    run(b"bare_signal");
+    run(b"bare_within");
+    run(b"bare_within_answered");
+    run(b"always_for_1");
+    run(b"always_for_0");
+    run(b"always_for_0_nested");
+    run(b"eventually_or");
+    run(b"eventually_and");
+}
+
+// The bounds and their bits.
+fn run_bounds() {
+    run(b"bound_0");
+    run(b"bound_1");
+    run(b"bound_3");
+    run(b"bound_4");
+    run(b"bound_largest");
+}
+
+fn main() {
+    run_always();
+    run_alone();
+    run_bounds();
+}
