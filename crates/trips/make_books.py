@@ -1,7 +1,7 @@
 #!/usr/bin/env python3
 """Writes data/: the book of each trip of document 01, one rule and its words at steps 0, 1, 2 and on.
 
-python3 crates/trips/make_books.py, at the repository's root. What the program has to print, stdout, is written by hand from document 01.
+python3 crates/trips/make_books.py, at the repository's root. What the program has to print, stdout, is read off document 01 and not made here.
 """
 import os
 
