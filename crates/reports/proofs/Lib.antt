@@ -1,6 +1,5 @@
 -- Demand 3 of the code's calls.
 pub mod Following
 pub mod Demand
-pub mod Staying
 pub mod Starting
 pub mod OverRecord

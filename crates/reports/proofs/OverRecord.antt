@@ -6,26 +6,20 @@ use mathlib.Core.Option.{some}
 use mathlib.Core.Path.{_≡_, ap, _∙_}
 use Prim.Native.Nat.{ℕ, zero, suc, _+_, _≤_, _<_}
 use native.Mathlib.Omega.{arith}
-use Rattle.monitor.specs.Mon.{Mon, count}
+use Rattle.monitor.specs.Mon.{Mon}
 use Rattle.meaning.specs.Alarm.{Record, Alarm, First}
 use Rattle.meaning.specs.State.{State, step, after, newlyFailed}
 use Rattle.meaning.proofs.Meaning.{report-is-first}
 use Rattle.stepping.specs.declared.call.Verdict.the-variants.{Accepted}
-use Rattle.stepping.specs.Memory.{Inside}
 use Rattle.stepping.specs.Walk.{readMon}
-use Rattle.stepping.specs.Call.{Tables, Monitor, Stepping, isLent, ruleMon, stepCall}
+use Rattle.stepping.specs.Call.{Tables, Monitor, Stepping, isLent, ruleMon, stepCall, with}
 use Rattle.stepping.specs.Fresh.{freshOf}
-use Rattle.stepping.proofs.Memories.{inside-less, read-back}
+use Rattle.stepping.proofs.Memories.{read-back}
 use Rattle.stepping.proofs.Calling.{known-comparable}
 use Rattle.stepping.proofs.Standings.{stood}
 use Rattle.reports.proofs.Following.{fresh-reads}
-use Rattle.reports.proofs.Staying.{Ready, with, stays-ready}
+use Rattle.stepping.proofs.Staying.{Ready, inside-own, stays-ready}
 use Rattle.reports.proofs.Starting.{fresh-ready}
-
-inside-own : (t : Tables) (k : Monitor) (m : Mon) → Ready t k m → Inside (k .memory) (0 + count m)
-inside-own t k m d =
-    let o = stood (t .ops) (t .nums) (t .first) (t .count) (t .nodes) (t .nfirst) (t .ncount) m (d .own) in
-    inside-less (k .memory) (0 + count m) (t .ncount) (omega (arith, o .counted)) (known-comparable t k (record { mon = m; is = d .own; lent = d .lent }) .inside)
 
 module _ (t : Tables) (k₀ : Monitor) (m : Mon) (own : ruleMon t ≡ some m) (lent : isLent t k₀ ≡ true) (rec : Record) where
   -- the monitor after the calls at 0, 1 and on up to before s

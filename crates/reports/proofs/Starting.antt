@@ -1,4 +1,4 @@
--- A fresh monitor fits the table that it was made for, so with `stays-ready` (Staying.antt) its own calls below 2^63 are never refused.
+-- A fresh monitor fits the table that it was made for, so with `stays-ready` (crates/stepping, proofs/Staying.antt) its own calls below 2^63 are never refused.
 use mathlib.Core.Path.{_≡_, refl, sym, ap, ap₂, subst, _∙_}
 use mathlib.Core.Bool.{Bool, true, false, _&&_}
 use mathlib.Core.List.{List, [], _∷_}
@@ -25,12 +25,12 @@ use Rattle.stepping.specs.declared.state.NodeState.{NodeState}
 use Rattle.stepping.specs.Memory.{Memory, get, Inside}
 use Rattle.stepping.specs.Walk.{NodesAt}
 use Rattle.stepping.specs.Shape.{rowFits, shapedFrom}
-use Rattle.stepping.specs.Call.{Tables, Monitor, isLent, hasRoom, ruleMon, fits, accept, stepCall, Known}
+use Rattle.stepping.specs.Call.{Tables, Monitor, isLent, hasRoom, ruleMon, fits, accept, stepCall, with, Known}
 use Rattle.stepping.specs.Fresh.{column, cleared, freshOf}
 use Rattle.stepping.proofs.Calling.{known-comparable}
 use Rattle.stepping.proofs.Standings.{stood}
 use Rattle.reports.proofs.Following.{blank, clear-entry}
-use Rattle.reports.proofs.Staying.{Ready, with, row-and, stays-ready}
+use Rattle.stepping.proofs.Staying.{Ready, row-and, stays-ready}
 
 -- ---- a column of the table
 length-column : (nodes : List ℕ) (col n i : ℕ) → length (column nodes col i n) ≡ n

@@ -6,4 +6,5 @@ pub mod Walking
 pub mod Standings
 pub mod Fitting
 pub mod Calling
+pub mod Staying
 pub mod Filling

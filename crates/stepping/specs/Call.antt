@@ -79,6 +79,10 @@ stepMon (some m) t k s w =
 unfoldable pub stepCall : Tables → Monitor → ℕ → ℕ → Stepping
 stepCall t k s w = orRefuse (isLent t k) 1 (k .memory) (stepMon (ruleMon t) t k s w)
 
+-- a monitor with another memory: the one that a call leaves
+abbrev pub with : Monitor → Memory → Monitor
+with k mem = record { size = k .size; forms = k .forms; bounds = k .bounds; memory = mem }
+
 pub record Answers (c : Stepping) (r : Verdict) (mem : Memory) : Type 0 where
   pub answers : r ≡ c .answer
   pub leaves : mem ≡ c .memory

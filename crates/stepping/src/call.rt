@@ -125,7 +125,7 @@ fn fits_row(row: Row, form: u64, bound: u64, st: NodeState) -> bool
 }
 
 // Whether the first n entries fit their nodes.
-fn is_shaped(
+pub fn is_shaped(
     nodes: &[u64],
     nfirst: usize,
     forms: &[u64],
@@ -201,7 +201,7 @@ pub fn is_lent(
 }
 
 // The step itself, on tables and a monitor that fit.
-fn step_fit(
+pub fn step_fit(
     ops: &[u8],
     nums: &[u64],
     first: usize,

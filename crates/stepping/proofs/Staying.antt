@@ -19,15 +19,15 @@ use Rattle.monitor.specs.Mon.{Check, range-check, delayed-check, obligation, Mo
 use Rattle.monitor.specs.Table.{rowOf}
 use Rattle.meaning.specs.State.{State, CheckState, FromMinusOne, WellKept, CheckShaped, WellShaped, step}
 use Rattle.meaning.proofs.Meaning.{step-shaped}
 use Rattle.stepping.specs.declared.state.NodeState.{NodeState}
 use Rattle.stepping.specs.Memory.{Memory, get, put, Inside}
 use Rattle.stepping.specs.Check.{obligationOf, entryOf, readCheck, writeCheck}
 use Rattle.stepping.specs.Walk.{NodesAt, ShapedEntry, ShapedAt, readMon, writeMon, joinedEntry}
 use Rattle.stepping.specs.Shape.{isMinusOne, fromMinusOne, windowKept, owedFits, joinedFits, entryFits, rowFits, shapedFrom}
 use Rattle.stepping.proofs.Memories.{get-put-same, get-put-other, inside-less, inside-write, write-before, write-past, SameFrom}
 use Rattle.stepping.proofs.Standings.{shaped-split, shaped-at, stood}
 use Rattle.stepping.proofs.Calling.{known-comparable, room-of}
-use Rattle.stepping.specs.Call.{Tables, Monitor, Stepping, hasRoom, isLent, ruleMon, fits, orRefuse, accept, stepMon, stepCall, Known}
+use Rattle.stepping.specs.Call.{Tables, Monitor, Stepping, hasRoom, isLent, ruleMon, fits, orRefuse, accept, stepMon, stepCall, with, Known}
 use Rattle.formula.specs.Table.{roomy}
 
 from-back : (c : ℤ) → FromMinusOne c → fromMinusOne c ≡ true
@@ -158,8 +158,10 @@ pub record Ready (t : Tables) (k : Monitor) (m : Mon) : Type 0 where
   pub lent : isLent t k ≡ true
   pub fit : fits t k ≡ true
 
-abbrev pub with : Monitor → Memory → Monitor
-with k mem = record { size = k .size; forms = k .forms; bounds = k .bounds; memory = mem }
+pub inside-own : (t : Tables) (k : Monitor) (m : Mon) → Ready t k m → Inside (k .memory) (0 + count m)
+inside-own t k m d =
+    let o = stood (t .ops) (t .nums) (t .first) (t .count) (t .nodes) (t .nfirst) (t .ncount) m (d .own) in
+    inside-less (k .memory) (0 + count m) (t .ncount) (omega (arith, o .counted)) (known-comparable t k (record { mon = m; is = d .own; lent = d .lent }) .inside)
 
 -- its call below 2^63 is accepted, and it fits again afterwards
 pub record Stays (t : Tables) (k : Monitor) (m : Mon) (s w : ℕ) : Type 0 where
