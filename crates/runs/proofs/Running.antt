@@ -1,0 +1,219 @@
+-- The run's loop and its tests in their order.
+use mathlib.Core.Path.{_≡_, refl, sym, ap, ap₂, subst, _∙_}
+use mathlib.Core.Bool.{Bool, true, false, _&&_}
+use mathlib.Core.List.{List, [], _∷_}
+use mathlib.Core.Option.{Option, none, some}
+use Prim.Native.Nat.{ℕ, zero, suc, _+_, _-_, _≤_, _<_}
+use native.Mathlib.Omega.{arith}
+use native.Mathlib.Numerals.{add-one}
+use lib.Dec.{eqb, leb, ltb}
+use lib.ListN.{length, getD, drop, length-drop}
+use lib.Seq.{drop-cons, drop-length}
+use borrow.Author.Tests.{eq-eqb, ne-eqb, lt-ltb, le-ltb, ltb-true, lt-leb, le-leb}
+use Rattle.formula.specs.Table.{isSome}
+use Rattle.formula.proofs.Cases.{true-false}
+use Rattle.formula.proofs.Walks.{both-true}
+use Rattle.monitor.specs.Mon.{Mon}
+use Rattle.stepping.specs.declared.call.Verdict.{Verdict}
+use Rattle.stepping.specs.declared.call.Verdict.the-variants.{Accepted, Refused}
+use Rattle.stepping.specs.Memory.{Memory}
+use Rattle.stepping.specs.Shape.{shapedFrom}
+use Rattle.stepping.specs.Call.{Tables, Monitor, Stepping, isLent, ruleMon, fits, accept, acceptMon, acceptOf, stepCall, with, Known, Fit}
+use Rattle.stepping.specs.Call as one
+use Rattle.stepping.proofs.Staying.{Ready, Stays, stays-ready}
+use Rattle.runs.specs.declared.RunVerdict.{RunVerdict}
+use Rattle.runs.specs.declared.RunVerdict.the-variants.{Quiet, Reported, Refused as NotRun}
+use Rattle.runs.specs.Run.{answersOf, memoryAfter, reportOr, firstReport, Running, refuse, orRefuse, manySteps, inTime, runMon, runCall, Answers, RunFit, firstOf}
+
+-- ---- the steps below 2^63
+below-in-time : (s : ℕ) (ws : List ℕ) → s + length ws ≤ 9223372036854775808 → inTime s ws ≡ true
+unfolding inTime
+below-in-time s [] h = refl
+below-in-time s (w ∷ ws) h = ap₂ _&&_ (lt-ltb s 9223372036854775808 (omega arith)) (below-in-time (s + 1) ws (omega arith))
+
+past-late : (s : ℕ) (w : ℕ) (ws : List ℕ) → 9223372036854775808 < s + length (w ∷ ws) → inTime s (w ∷ ws) ≡ false
+unfolding inTime
+past-late s w [] h = ap (λ (b : Bool). b && true) (le-ltb s 9223372036854775808 (omega arith))
+past-late s w (v ∷ ws) h = ap (λ (b : Bool). ltb s 9223372036854775808 && b) (past-late (s + 1) v ws (omega arith)) ∙ none (ltb s 9223372036854775808)
+  where
+    none : (x : Bool) → (x && false) ≡ false
+    none true = refl
+    none false = refl
+
+pub no-words : (s : ℕ) (ws : List ℕ) → length ws ≡ 0 → true ≡ inTime s ws
+unfolding inTime
+no-words s [] h = refl
+no-words s (w ∷ ws) h = absurd (omega arith)
+
+pub late-start : (s : ℕ) (ws : List ℕ) → (length ws ≡ 0 → ⊥) → 9223372036854775808 ≤ s → false ≡ inTime s ws
+late-start s [] h l = absurd (h refl)
+late-start s (w ∷ ws) h l = sym (past-late s w ws (omega arith))
+
+pub enough-steps : (s : ℕ) (ws : List ℕ) → (length ws ≡ 0 → ⊥) → s < 9223372036854775808 → leb (length ws) (9223372036854775808 - s) ≡ inTime s ws
+enough-steps s [] h l = absurd (h refl)
+enough-steps s (w ∷ ws) h l = go (9223372036854775808 - s - length (w ∷ ws)) (length (w ∷ ws) - (9223372036854775808 - s)) refl refl
+  where
+    go : (a b : ℕ) → a ≡ 9223372036854775808 - s - length (w ∷ ws) → b ≡ length (w ∷ ws) - (9223372036854775808 - s) → leb (length (w ∷ ws)) (9223372036854775808 - s) ≡ inTime s (w ∷ ws)
+    go a zero p q = le-leb (length (w ∷ ws)) (9223372036854775808 - s) (omega arith) ∙ sym (below-in-time s (w ∷ ws) (omega arith))
+    go a (suc b) p q = lt-leb (length (w ∷ ws)) (9223372036854775808 - s) (omega arith) ∙ sym (past-late s w ws (omega arith))
+
+-- ---- the report of one call
+pub reports-here : (s : ℕ) (v : Verdict) (b : Bool) → v ≡ Accepted b → b ≡ true → Reported s ≡ reportOr s v Quiet
+reports-here s v b e h = sym (ap (λ (x : Verdict). reportOr s x Quiet) (e ∙ ap Accepted h))
+
+-- ---- the loop
+first-assoc : (s : ℕ) (v : Verdict) (r x : RunVerdict) → firstOf r (reportOr s v x) ≡ firstOf (firstOf r (reportOr s v Quiet)) x
+first-assoc s (Accepted true) Quiet x = refl
+first-assoc s (Accepted true) (Reported n) x = refl
+first-assoc s (Accepted true) (NotRun n) x = refl
+first-assoc s (Accepted false) Quiet x = refl
+first-assoc s (Accepted false) (Reported n) x = refl
+first-assoc s (Accepted false) (NotRun n) x = refl
+first-assoc s (Refused m) Quiet x = refl
+first-assoc s (Refused m) (Reported n) x = refl
+first-assoc s (Refused m) (NotRun n) x = refl
+
+first-quiet : (r : RunVerdict) → firstOf r Quiet ≡ r
+first-quiet Quiet = refl
+first-quiet (Reported n) = refl
+first-quiet (NotRun n) = refl
+
+-- the entries stay as many
+pub record SameRoom (a b : Memory) : Type 0 where
+  pub held : length (a .held) ≡ length (b .held)
+  pub remaining : length (a .remaining) ≡ length (b .remaining)
+  pub failed : length (a .failed) ≡ length (b .failed)
+  pub culprits : length (a .culprits) ≡ length (b .culprits)
+
+module _ (t : Tables) (size : ℕ) (forms bounds : List ℕ) where
+  abbrev pub monOf : Memory → Monitor
+  monOf mem = record { size = size; forms = forms; bounds = bounds; memory = mem }
+
+  -- before word i, which is for step `here`: what is still to do leads to the same end
+  pub record Along (mem₀ : Memory) (s : ℕ) (ws : List ℕ) (mem : Memory) (r : RunVerdict) (here i : ℕ) : Type 0 where
+    pub mon : Mon
+    pub bound : i ≤ length ws
+    pub ready : Ready t (monOf mem) mon
+    pub timely : inTime here (drop i ws) ≡ true
+    pub leaves : memoryAfter t (monOf mem) here (drop i ws) ≡ memoryAfter t (monOf mem₀) s ws
+    pub answers : firstOf r (firstReport here (answersOf t (monOf mem) here (drop i ws))) ≡ firstReport s (answersOf t (monOf mem₀) s ws)
+
+  module _ (mem₀ : Memory) (s : ℕ) (ws : List ℕ) where
+    pub along-start : RunFit t (monOf mem₀) s ws → Along mem₀ s ws mem₀ Quiet s 0
+    along-start d = record {
+      mon = d .known .mon;
+      bound = omega arith;
+      ready = record { own = d .known .is; lent = d .known .lent; fit = d .shaped };
+      timely = d .timely;
+      leaves = refl;
+      answers = refl;
+    }
+
+    module _ (mem : Memory) (r : RunVerdict) (here i : ℕ) (d : Along mem₀ s ws mem r here i) where
+      pub along-end : length ws ≤ i → Answers (manySteps t (monOf mem₀) s ws) r mem
+      unfolding memoryAfter answersOf firstReport
+      along-end h =
+          let e : i ≡ length ws = omega arith in
+          let z : drop i ws ≡ [] = ap (λ (j : ℕ). drop j ws) e ∙ drop-length ws in
+          record {
+            answers = sym (first-quiet r) ∙ sym (ap (λ (l : List ℕ). firstOf r (firstReport here (answersOf t (monOf mem) here l))) z) ∙ d .answers;
+            leaves = sym (ap (memoryAfter t (monOf mem) here) z) ∙ d .leaves;
+          }
+
+      module _ (h : i < length ws) where
+        rest : drop i ws ≡ getD ws i 0 ∷ drop (i + 1) ws
+        rest = drop-cons ws i 0 h ∙ ap (λ (j : ℕ). getD ws i 0 ∷ drop j ws) (sym (add-one i))
+
+        timely-now : (ltb here 9223372036854775808 ≡ true) × (inTime (here + 1) (drop (i + 1) ws) ≡ true)
+        unfolding inTime
+        timely-now = both-true (ltb here 9223372036854775808) (inTime (here + 1) (drop (i + 1) ws)) (sym (ap (inTime here) rest) ∙ d .timely)
+
+        pub along-below : here < 9223372036854775808
+        along-below = ltb-true here 9223372036854775808 (timely-now .0)
+
+        pub along-fit : Fit t (monOf mem) here
+        along-fit = record { known = record { mon = d .mon; is = d .ready .own; lent = d .ready .lent }; shaped = d .ready .fit; below = along-below }
+
+        module _ (v : Verdict) (mem′ : Memory) (a : one.Answers (acceptOf t (monOf mem) here (getD ws i 0)) v mem′) where
+          stays : Stays t (monOf mem) (d .mon) here (getD ws i 0)
+          stays = stays-ready t (monOf mem) (d .mon) (d .ready) here (getD ws i 0) along-below
+
+          -- the call of `step` is what was done
+          same : stepCall t (monOf mem) here (getD ws i 0) ≡ acceptOf t (monOf mem) here (getD ws i 0)
+          same = stays .accepted ∙ sym (ap (λ (o : Option Mon). acceptMon o mem here (getD ws i 0)) (d .ready .own))
+
+          to-memory : stepCall t (monOf mem) here (getD ws i 0) .memory ≡ mem′
+          to-memory = ap (λ (c : Stepping). c .memory) same ∙ sym (a .leaves)
+
+          to-answer : stepCall t (monOf mem) here (getD ws i 0) .answer ≡ v
+          to-answer = ap (λ (c : Stepping). c .answer) same ∙ sym (a .answers)
+
+          pub along-next : (x r′ : RunVerdict) → x ≡ reportOr here v Quiet → r′ ≡ firstOf r x → Along mem₀ s ws mem′ r′ (here + 1) (i + 1)
+          unfolding memoryAfter answersOf firstReport
+          along-next x r′ p q = record {
+            mon = d .mon;
+            bound = omega arith;
+            ready = subst (λ (y : Memory). Ready t (monOf y) (d .mon)) to-memory (stays .again);
+            timely = timely-now .1;
+            leaves =
+                ap (λ (y : Memory). memoryAfter t (monOf y) (here + 1) (drop (i + 1) ws)) (sym to-memory)
+                ∙ sym (ap (memoryAfter t (monOf mem) here) rest)
+                ∙ d .leaves;
+            answers =
+                ap (λ (y : RunVerdict). firstOf y (firstReport (here + 1) (answersOf t (monOf mem′) (here + 1) (drop (i + 1) ws)))) (q ∙ ap (firstOf r) p)
+                ∙ sym (first-assoc here v r (firstReport (here + 1) (answersOf t (monOf mem′) (here + 1) (drop (i + 1) ws))))
+                ∙ ap₂ (λ (z : Verdict) (y : Memory). firstOf r (reportOr here z (firstReport (here + 1) (answersOf t (monOf y) (here + 1) (drop (i + 1) ws))))) (sym to-answer) (sym to-memory)
+                ∙ sym (ap (λ (l : List ℕ). firstOf r (firstReport here (answersOf t (monOf mem) here l))) rest)
+                ∙ d .answers;
+          }
+
+-- ---- the tests in their order
+module _ (t : Tables) (k : Monitor) (d : Known t k) (s : ℕ) (ws : List ℕ) where
+  by-rule : runMon (ruleMon t) t k s ws ≡ orRefuse (fits t k) 2 (k .memory) (orRefuse (inTime s ws) 24 (k .memory) (manySteps t k s ws))
+  by-rule = ap (λ (o : Option Mon). runMon o t k s ws) (d .is)
+
+  refused-by : (b : Bool) (n : ℕ) (c : Running) → b ≡ false → Answers (orRefuse b n (k .memory) c) (NotRun n) (k .memory)
+  refused-by b n c q = subst (λ (x : Bool). Answers (orRefuse x n (k .memory) c) (NotRun n) (k .memory)) (sym q) (record { answers = refl; leaves = refl })
+
+  pub other-size : (k .size ≡ t .ncount → ⊥) → Answers (runMon (ruleMon t) t k s ws) (NotRun 2) (k .memory)
+  other-size h = subst (λ (c : Running). Answers c (NotRun 2) (k .memory)) (sym by-rule) (refused-by (fits t k) 2 _ (ap (λ (b : Bool). b && shapedFrom (t .nodes) (t .nfirst) (k .forms) (k .bounds) (k .memory) 0 (t .ncount)) (ne-eqb (k .size) (t .ncount) h)))
+
+  module _ (h : k .size ≡ t .ncount) (b : Bool) (e : b ≡ shapedFrom (t .nodes) (t .nfirst) (k .forms) (k .bounds) (k .memory) 0 (t .ncount)) where
+    fits-is : fits t k ≡ b
+    fits-is = ap₂ _&&_ (eq-eqb (k .size) (t .ncount) h) (sym e)
+
+    pub not-shaped : b ≡ false → Answers (runMon (ruleMon t) t k s ws) (NotRun 2) (k .memory)
+    not-shaped q = subst (λ (c : Running). Answers c (NotRun 2) (k .memory)) (sym by-rule) (refused-by (fits t k) 2 _ (fits-is ∙ q))
+
+    module _ (q : b ≡ true) (c : Bool) (p : c ≡ inTime s ws) where
+      fitting : runMon (ruleMon t) t k s ws ≡ orRefuse c 24 (k .memory) (manySteps t k s ws)
+      fitting = by-rule ∙ ap₂ (λ (x y : Bool). orRefuse x 2 (k .memory) (orRefuse y 24 (k .memory) (manySteps t k s ws))) (fits-is ∙ q) (sym p)
+
+      pub too-late : c ≡ false → Answers (runMon (ruleMon t) t k s ws) (NotRun 24) (k .memory)
+      too-late z = subst (λ (x : Running). Answers x (NotRun 24) (k .memory)) (sym fitting) (refused-by c 24 (manySteps t k s ws) z)
+
+      pub run-fit-here : c ≡ true → RunFit t k s ws
+      run-fit-here z = record { known = d; shaped = fits-is ∙ q; timely = sym p ∙ z }
+
+      pub ran-here : (r : RunVerdict) (mem′ : Memory) → c ≡ true → Answers (manySteps t k s ws) r mem′ → Answers (runMon (ruleMon t) t k s ws) r mem′
+      ran-here r mem′ z a = subst (λ (x : Running). Answers x r mem′) (sym (fitting ∙ ap (λ (y : Bool). orRefuse y 24 (k .memory) (manySteps t k s ws)) z)) a
+
+module _ (t : Tables) (k : Monitor) (s : ℕ) (ws : List ℕ) (b : Bool) (e : b ≡ isLent t k) where
+  pub not-lent : b ≡ false → Answers (runCall t k s ws) (NotRun 1) (k .memory)
+  unfolding runCall
+  not-lent q = subst (λ (x : Bool). Answers (orRefuse x 1 (k .memory) (runMon (ruleMon t) t k s ws)) (NotRun 1) (k .memory)) (sym (sym e ∙ q)) (record { answers = refl; leaves = refl })
+
+  module _ (q : b ≡ true) (c : Bool) (p : c ≡ isSome (ruleMon t)) where
+    lent-call : runCall t k s ws ≡ runMon (ruleMon t) t k s ws
+    unfolding runCall
+    lent-call = ap (λ (x : Bool). orRefuse x 1 (k .memory) (runMon (ruleMon t) t k s ws)) (sym e ∙ q)
+
+    pub not-compiled : c ≡ false → Answers (runCall t k s ws) (NotRun 2) (k .memory)
+    not-compiled z = subst (λ (x : Running). Answers x (NotRun 2) (k .memory)) (sym lent-call) (go (ruleMon t) (sym p ∙ z))
+      where
+        go : (o : Option Mon) → isSome o ≡ false → Answers (runMon o t k s ws) (NotRun 2) (k .memory)
+        go none h = record { answers = refl; leaves = refl }
+        go (some x) h = true-false refl h
+
+    pub call-goes-on : (r : RunVerdict) (mem′ : Memory) → Answers (runMon (ruleMon t) t k s ws) r mem′ → Answers (runCall t k s ws) r mem′
+    call-goes-on r mem′ a = subst (λ (x : Running). Answers x r mem′) (sym lent-call) a

@@ -1,0 +1,2 @@
+-- A run of many words in one call.
+pub mod Run

@@ -1,0 +1,221 @@
+// Many words in one call: what is lent is tested once, then the monitor is stepped in place for each word.
+use monitor::table::is_compiled;
+use stepping::call::Verdict;
+use stepping::call::is_lent;
+use stepping::call::is_shaped;
+use stepping::call::step_fit;
+ghost use mathlib.Core.Path.{_≡_};
+ghost use Rattle.stepping.specs.Call.{Known, ruleMon};
+ghost use Rattle.runs.specs.Run.{Answers, RunFit, firstOf, inTime, manySteps, reportOr, runCall, runMon};
+
+// Whether no word was reported; the first step that was; or the refusal of the whole run.
+pub enum RunVerdict {
+    Quiet,
+    Reported(u64),
+    Refused(u64),
+}
+
+// Whether the words are handed over below 2^63.
+fn in_time(s: u64, words: &[u64]) -> bool
+    ensures { λ r. ⌜ r ≡ inTime s (now (words .entry)) ⌝ }
+{
+    if words.len() == 0 {
+        return true;
+    }
+    if s < 9223372036854775808 {
+        return words.len() as u64 <= 9223372036854775808 - s;
+    }
+    false
+}
+
+// The report at s.
+fn report_at(v: Verdict, s: u64) -> RunVerdict
+    ensures { λ r. ⌜ r ≡ reportOr s v RunVerdict.Quiet ⌝ }
+{
+    let Verdict::Accepted(b) = v else {
+        return RunVerdict::Quiet;
+    };
+    if b {
+        return RunVerdict::Reported(s);
+    }
+    RunVerdict::Quiet
+}
+
+// A later report does not replace an earlier one.
+fn first_of(r: RunVerdict, later: RunVerdict) -> RunVerdict
+    ensures { λ o. ⌜ o ≡ firstOf r later ⌝ }
+{
+    match r {
+        RunVerdict::Quiet => later,
+        RunVerdict::Reported(_) => r,
+        RunVerdict::Refused(_) => r,
+    }
+}
+
+// The steps themselves, on tables and a monitor that fit.
+fn run_fit(
+    ops: &[u8],
+    nums: &[u64],
+    first: usize,
+    count: usize,
+    nodes: &[u64],
+    nfirst: usize,
+    ncount: usize,
+    size: usize,
+    forms: &[u64],
+    bounds: &[u64],
+    held: &mut [bool],
+    remaining: &mut [u64],
+    failed: &mut [bool],
+    culprits: &mut [i64],
+    s: u64,
+    words: &[u64],
+) -> RunVerdict
+    requires { ⌜ RunFit (record { ops = now ops; nums = now nums; first = first; count = count; nodes = now nodes; nfirst = nfirst; ncount = ncount }) (record { size = size; forms = now forms; bounds = now bounds; memory = record { held = now held; remaining = now remaining; failed = now failed; culprits = now culprits } }) s (now words) ⌝ }
+    ensures { λ r. ⌜ Answers (manySteps (record { ops = now (ops .entry); nums = now (nums .entry); first = first; count = count; nodes = now (nodes .entry); nfirst = nfirst; ncount = ncount }) (record { size = size; forms = now (forms .entry); bounds = now (bounds .entry); memory = record { held = now (held .entry); remaining = now (remaining .entry); failed = now (failed .entry); culprits = now (culprits .entry) } }) s (now (words .entry))) r (record { held = now (held .exit); remaining = now (remaining .exit); failed = now (failed .exit); culprits = now (culprits .exit) }) ⌝ }
+{
+    let mut r = RunVerdict::Quiet;
+    let mut at = s;
+    let mut i = 0;
+    while i < words.len() {
+        let v = step_fit(
+            ops,
+            nums,
+            first,
+            count,
+            nodes,
+            nfirst,
+            ncount,
+            size,
+            forms,
+            bounds,
+            held,
+            remaining,
+            failed,
+            culprits,
+            at,
+            words[i],
+        );
+        r = first_of(r, report_at(v, at));
+        at += 1;
+        i += 1;
+    }
+    r
+}
+
+// A run of a monitor over tables that hold a compiled rule.
+fn run_compiled(
+    ops: &[u8],
+    nums: &[u64],
+    first: usize,
+    count: usize,
+    nodes: &[u64],
+    nfirst: usize,
+    ncount: usize,
+    size: usize,
+    forms: &[u64],
+    bounds: &[u64],
+    held: &mut [bool],
+    remaining: &mut [u64],
+    failed: &mut [bool],
+    culprits: &mut [i64],
+    s: u64,
+    words: &[u64],
+) -> RunVerdict
+    requires { ⌜ Known (record { ops = now ops; nums = now nums; first = first; count = count; nodes = now nodes; nfirst = nfirst; ncount = ncount }) (record { size = size; forms = now forms; bounds = now bounds; memory = record { held = now held; remaining = now remaining; failed = now failed; culprits = now culprits } }) ⌝ }
+    ensures { λ r. ⌜ Answers (runMon (ruleMon (record { ops = now (ops .entry); nums = now (nums .entry); first = first; count = count; nodes = now (nodes .entry); nfirst = nfirst; ncount = ncount })) (record { ops = now (ops .entry); nums = now (nums .entry); first = first; count = count; nodes = now (nodes .entry); nfirst = nfirst; ncount = ncount }) (record { size = size; forms = now (forms .entry); bounds = now (bounds .entry); memory = record { held = now (held .entry); remaining = now (remaining .entry); failed = now (failed .entry); culprits = now (culprits .entry) } }) s (now (words .entry))) r (record { held = now (held .exit); remaining = now (remaining .exit); failed = now (failed .exit); culprits = now (culprits .exit) }) ⌝ }
+{
+    if size == ncount {
+        if is_shaped(
+            nodes,
+            nfirst,
+            forms,
+            bounds,
+            held,
+            remaining,
+            failed,
+            culprits,
+            ncount,
+        ) {
+            if in_time(s, words) {
+                return run_fit(
+                    ops,
+                    nums,
+                    first,
+                    count,
+                    nodes,
+                    nfirst,
+                    ncount,
+                    size,
+                    forms,
+                    bounds,
+                    held,
+                    remaining,
+                    failed,
+                    culprits,
+                    s,
+                    words,
+                );
+            }
+            return RunVerdict::Refused(24);
+        }
+    }
+    RunVerdict::Refused(2)
+}
+
+// Steps a lent monitor over all the words, the first of them at step s, over the tables that hold its rule.
+pub fn run(
+    ops: &[u8],
+    nums: &[u64],
+    first: usize,
+    count: usize,
+    nodes: &[u64],
+    nfirst: usize,
+    ncount: usize,
+    size: usize,
+    forms: &[u64],
+    bounds: &[u64],
+    held: &mut [bool],
+    remaining: &mut [u64],
+    failed: &mut [bool],
+    culprits: &mut [i64],
+    s: u64,
+    words: &[u64],
+) -> RunVerdict
+    ensures { λ r. ⌜ Answers (runCall (record { ops = now (ops .entry); nums = now (nums .entry); first = first; count = count; nodes = now (nodes .entry); nfirst = nfirst; ncount = ncount }) (record { size = size; forms = now (forms .entry); bounds = now (bounds .entry); memory = record { held = now (held .entry); remaining = now (remaining .entry); failed = now (failed .entry); culprits = now (culprits .entry) } }) s (now (words .entry))) r (record { held = now (held .exit); remaining = now (remaining .exit); failed = now (failed .exit); culprits = now (culprits .exit) }) ⌝ }
+{
+    if is_lent(
+        ops,
+        nums,
+        nodes,
+        forms,
+        bounds,
+        held,
+        remaining,
+        failed,
+        culprits,
+    ) {
+        if is_compiled(ops, nums, first, count, nodes, nfirst, ncount) {
+            return run_compiled(
+                ops,
+                nums,
+                first,
+                count,
+                nodes,
+                nfirst,
+                ncount,
+                size,
+                forms,
+                bounds,
+                held,
+                remaining,
+                failed,
+                culprits,
+                s,
+                words,
+            );
+        }
+        return RunVerdict::Refused(2);
+    }
+    RunVerdict::Refused(1)
+}
