@@ -1,2 +1,4 @@
 -- Laws of a run.
 pub mod Running
+pub mod Calls
+pub mod Runs

@@ -6,10 +6,12 @@
 --     runCall       the answer to a run: refused as a whole, or that many calls of `step`
 use mathlib.Core.Bool.{Bool, true, false, _&&_}
 use mathlib.Core.List.{List, [], _∷_}
+use mathlib.Core.Logic.{_⊎_}
 use mathlib.Core.Option.{Option, none, some}
 use mathlib.Core.Path.{_≡_}
 use Prim.Native.Nat.{ℕ, _+_, _≤_}
 use lib.Dec.{ltb}
+use lib.ListN.{getD}
 use Rattle.monitor.specs.Mon.{Mon}
 use Rattle.stepping.specs.declared.call.Verdict.{Verdict}
 use Rattle.stepping.specs.declared.call.Verdict.the-variants.{Accepted, Refused}
@@ -82,3 +84,27 @@ abbrev pub firstOf : RunVerdict → RunVerdict → RunVerdict
 firstOf Quiet r = r
 firstOf (Reported s) r = Reported s
 firstOf (NotRun n) r = NotRun n
+
+-- ---- what is said of a run and of a list of answers
+abbrev pub Taken : Running → Type 0
+Taken c = (n : ℕ) → c .answer ≡ NotRun n → ⊥
+
+abbrev pub Accepts : Verdict → Type 0
+Accepts v = (b : Bool) × (v ≡ Accepted b)
+
+unfoldable pub Each : (Verdict → Type 0) → List Verdict → Type 0
+Each P [] = Unit {0}
+Each P (v ∷ vs) = P v × Each P vs
+
+unfoldable pub Some : (Verdict → Type 0) → List Verdict → Type 0
+Some P [] = ⊥
+Some P (v ∷ vs) = P v ⊎ Some P vs
+
+-- n is the lowest number that some of them are refused with
+pub record Lowest (n : ℕ) (vs : List Verdict) : Type 0 where
+  pub given : Some (λ v. v ≡ Refused n) vs
+  pub least : Each (λ v. (m : ℕ) → v ≡ Refused m → n ≤ m) vs
+
+-- the answer to word i reports
+abbrev pub ReportsAt : List Verdict → ℕ → Type 0
+ReportsAt vs i = getD vs i (Refused 0) ≡ Accepted true

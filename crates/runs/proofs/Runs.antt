@@ -1,0 +1,41 @@
+-- A run and the calls of `step` that it stands for (`answersOf`, `memoryAfter`: specs/Run.antt), for whatever is lent.
+--     is-calls           a run that is taken answers and leaves what those calls do
+--     all-accepted       each of those calls is accepted
+--     refused-iff        with a word or more, a run is refused exactly where one of the calls is, with the lowest number among them
+--     refused-by         which is the first call's, or 24
+--     refused-untouched  a refused run leaves the monitor as it was
+--     reports-once       at most one of the calls reports, so the first report is the only one
+--     reported-iff       a run reports a step exactly where it is taken and the call at that step reports
+use mathlib.Core.Path.{_≡_}
+use mathlib.Core.List.{List, _∷_}
+use mathlib.Core.Logic.{_⊎_, _↔_}
+use Prim.Native.Nat.{ℕ, _+_}
+use Rattle.stepping.specs.declared.call.Verdict.the-variants.{Refused}
+use Rattle.stepping.specs.Call.{Tables, Monitor, stepCall}
+use Rattle.runs.specs.declared.RunVerdict.the-variants.{Reported, Refused as NotRun}
+use Rattle.runs.specs.Run.{answersOf, manySteps, runCall, Taken, Accepts, Each, Lowest, ReportsAt}
+use Rattle.runs.proofs.Calls as calls
+use Rattle.runs.proofs.Calls.{case-of}
+
+module _ (t : Tables) (k : Monitor) (s : ℕ) (ws : List ℕ) where
+  pub is-calls : Taken (runCall t k s ws) → runCall t k s ws ≡ manySteps t k s ws
+  is-calls h = calls.taken-is t k s ws (case-of t k s ws) h
+
+  pub all-accepted : Taken (runCall t k s ws) → Each Accepts (answersOf t k s ws)
+  all-accepted h = calls.taken-accepts t k s ws (case-of t k s ws) h
+
+  pub refused-untouched : (n : ℕ) → runCall t k s ws .answer ≡ NotRun n → runCall t k s ws .memory ≡ k .memory
+  refused-untouched n h = calls.untouched t k s ws (case-of t k s ws) n h
+
+  pub reports-once : (i j : ℕ) → ReportsAt (answersOf t k s ws) i → ReportsAt (answersOf t k s ws) j → i ≡ j
+  reports-once i j p q = calls.at-most-once t k s ws (case-of t k s ws) i j p q
+
+  pub reported-iff : (i : ℕ) → (runCall t k s ws .answer ≡ Reported (s + i)) ↔ (Taken (runCall t k s ws) × ReportsAt (answersOf t k s ws) i)
+  reported-iff i = calls.reported t k s ws (case-of t k s ws) i
+
+module _ (t : Tables) (k : Monitor) (s w : ℕ) (ws : List ℕ) where
+  pub refused-iff : (n : ℕ) → (runCall t k s (w ∷ ws) .answer ≡ NotRun n) ↔ Lowest n (answersOf t k s (w ∷ ws))
+  refused-iff n = calls.refused t k s w ws (case-of t k s (w ∷ ws)) n
+
+  pub refused-by : (n : ℕ) → runCall t k s (w ∷ ws) .answer ≡ NotRun n → (stepCall t k s w .answer ≡ Refused n) ⊎ (n ≡ 24)
+  refused-by n h = calls.refused-first t k s w ws (case-of t k s (w ∷ ws)) n h
