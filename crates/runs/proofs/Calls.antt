@@ -7,7 +7,7 @@ use mathlib.Core.Option.{Option, none, some}
 use Prim.Native.Nat.{ℕ, zero, suc, _+_, _≤_, _<_}
 use native.Mathlib.Omega.{arith}
 use lib.Dec.{ltb}
-use lib.ListN.{getD}
+use lib.ListN.{length, getD}
 use borrow.Author.Tests.{le-ltb, lt-ltb, ltb-true}
 use Rattle.formula.proofs.Cases.{below-or, true-false}
 use Rattle.formula.proofs.Walks.{both-true}
@@ -25,6 +25,7 @@ use Rattle.stepping.proofs.Staying.{Ready, inside-own, stays-ready}
 use Rattle.runs.specs.declared.RunVerdict.{RunVerdict}
 use Rattle.runs.specs.declared.RunVerdict.the-variants.{Quiet, Reported, Refused as NotRun}
 use Rattle.runs.specs.Run.{answersOf, memoryAfter, reportOr, firstReport, Running, refuse, orRefuse, manySteps, inTime, runMon, runCall, Taken, Accepts, Each, Some, Lowest, ReportsAt}
+use Rattle.runs.proofs.Running.{below-in-time}
 
 -- ---- lists of answers
 pub meet : {P Q : Verdict → Type 0} (vs : List Verdict) → Some P vs → Each Q vs → (v : Verdict) × P v × Q v
@@ -43,6 +44,12 @@ unfolding Each
 none-at [] h i p = let z : _≡_ {A = ℕ} 0 1 = cc in omega arith
 none-at (v ∷ vs) h zero p = h .0 p
 none-at (v ∷ vs) h (suc i) p = none-at vs (h .1) i p
+
+pub reports-inside : (t : Tables) (ws : List ℕ) (k : Monitor) (s i : ℕ) → ReportsAt (answersOf t k s ws) i → i < length ws
+unfolding answersOf
+reports-inside t [] k s i h = let z : _≡_ {A = ℕ} 0 1 = cc in absurd (omega arith)
+reports-inside t (w ∷ ws) k s zero h = omega arith
+reports-inside t (w ∷ ws) k s (suc i) h = let z = reports-inside t ws (with k (stepCall t k s w .memory)) (s + 1) i h in omega arith
 
 -- the first report is one of them, and where there is one there is a first
 pub first-not-refused : (vs : List Verdict) (s n : ℕ) → firstReport s vs ≡ NotRun n → ⊥
@@ -191,6 +198,19 @@ module _ (t : Tables) (m : Mon) where
   once (w ∷ ws) k s d (suc i) zero p q = absurd (none-after k s w ws d q i p)
   once (w ∷ ws) k s d (suc i) (suc j) p q = ap suc (once ws (with k (stepCall t k s w .memory)) (s + 1) (ready-on k d s w (called k d s w)) i j p q)
 
+  -- a whole run below 2^63
+  pub ready-after : (ws : List ℕ) (k : Monitor) (s : ℕ) → Ready t k m → Ready t (with k (memoryAfter t k s ws)) m
+  unfolding memoryAfter
+  ready-after [] k s d = d
+  ready-after (w ∷ ws) k s d = ready-after ws (with k (stepCall t k s w .memory)) (s + 1) (ready-on k d s w (called k d s w))
+
+  pub ready-runs : (ws : List ℕ) (k : Monitor) (s : ℕ) → Ready t k m → s + length ws ≤ 9223372036854775808 → runCall t k s ws ≡ manySteps t k s ws
+  unfolding runCall
+  ready-runs ws k s d h =
+      ap (λ (b : Bool). orRefuse b 1 (k .memory) (runMon (ruleMon t) t k s ws)) (d .lent)
+      ∙ ap (λ (o : Option Mon). runMon o t k s ws) (d .own)
+      ∙ ap₂ (λ (b c : Bool). orRefuse b 2 (k .memory) (orRefuse c 24 (k .memory) (manySteps t k s ws))) (d .fit) (below-in-time s ws h)
+
 -- ---- the three ways that a run goes
 pub data Case (t : Tables) (k : Monitor) (s : ℕ) (ws : List ℕ) (c : Running) : Type 0 where
   stops : (n : ℕ) → ((i w : ℕ) → stepCall t k i w ≡ one.refuse n (k .memory)) → c ≡ refuse n (k .memory) → Case t k s ws c
@@ -307,3 +327,21 @@ module _ (t : Tables) (k : Monitor) (s w : ℕ) (ws : List ℕ) where
       let r : runCall t k s (w ∷ ws) .answer ≡ NotRun 24 = ap (λ (c : Running). c .answer) e in
       inr (cc)
   refused-first (goes m d i e) n h = absurd (goes-taken t k s (w ∷ ws) e n h)
+
+-- a run that is taken, and after which the monitor fits again
+pub record RunStays (t : Tables) (k : Monitor) (m : Mon) (s : ℕ) (ws : List ℕ) : Type 0 where
+  pub taken : runCall t k s ws ≡ manySteps t k s ws
+  pub again : Ready t (with k (runCall t k s ws .memory)) m
+
+pub run-stays : (t : Tables) (k : Monitor) (m : Mon) (s : ℕ) (ws : List ℕ) → Ready t k m → s + length ws ≤ 9223372036854775808 → RunStays t k m s ws
+run-stays t k m s ws d h =
+    let e = ready-runs t m ws k s d h in
+    record { taken = e; again = subst (λ (c : Running). Ready t (with k (c .memory)) m) (sym e) (ready-after t m ws k s d) }
+
+pub without-words : (t : Tables) (k : Monitor) (s other : ℕ) → runCall t k s [] ≡ runCall t k other []
+unfolding runCall inTime answersOf memoryAfter firstReport
+without-words t k s other = ap (orRefuse (isLent t k) 1 (k .memory)) (go (ruleMon t))
+  where
+    go : (o : Option Mon) → runMon o t k s [] ≡ runMon o t k other []
+    go none = refl
+    go (some m) = refl

@@ -26,7 +26,7 @@ use Rattle.runs.specs.declared.RunVerdict.the-variants.{Quiet, Reported,
 use Rattle.runs.specs.Run.{answersOf, memoryAfter, reportOr, firstReport, Running, refuse, orRefuse, manySteps, inTime, runMon, runCall, Answers, RunFit, firstOf}
 
 -- ---- the steps below 2^63
-below-in-time : (s : ℕ) (ws : List ℕ) → s + length ws ≤ 9223372036854775808 → inTime s ws ≡ true
+pub below-in-time : (s : ℕ) (ws : List ℕ) → s + length ws ≤ 9223372036854775808 → inTime s ws ≡ true
 unfolding inTime
 below-in-time s [] h = refl
 below-in-time s (w ∷ ws) h = ap₂ _&&_ (lt-ltb s 9223372036854775808 (omega arith)) (below-in-time (s + 1) ws (omega arith))

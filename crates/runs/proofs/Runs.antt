@@ -6,16 +6,21 @@
 --     refused-untouched  a refused run leaves the monitor as it was
 --     reports-once       at most one of the calls reports, so the first report is the only one
 --     reported-iff       a run reports a step exactly where it is taken and the call at that step reports
+--     fits-again         a monitor that fits its rule's table is run where each step is below 2^63, and fits it again afterwards
+--     no-words           a run of no words is handed no step
 use mathlib.Core.Path.{_≡_}
-use mathlib.Core.List.{List, _∷_}
+use mathlib.Core.List.{List, [], _∷_}
 use mathlib.Core.Logic.{_⊎_, _↔_}
-use Prim.Native.Nat.{ℕ, _+_}
+use Prim.Native.Nat.{ℕ, _+_, _≤_}
+use lib.ListN.{length}
+use Rattle.monitor.specs.Mon.{Mon}
 use Rattle.stepping.specs.declared.call.Verdict.the-variants.{Refused}
 use Rattle.stepping.specs.Call.{Tables, Monitor, stepCall}
+use Rattle.stepping.proofs.Staying.{Ready}
 use Rattle.runs.specs.declared.RunVerdict.the-variants.{Reported, Refused as NotRun}
 use Rattle.runs.specs.Run.{answersOf, manySteps, runCall, Taken, Accepts, Each, Lowest, ReportsAt}
 use Rattle.runs.proofs.Calls as calls
-use Rattle.runs.proofs.Calls.{case-of}
+use Rattle.runs.proofs.Calls.{RunStays, case-of}
 
 module _ (t : Tables) (k : Monitor) (s : ℕ) (ws : List ℕ) where
   pub is-calls : Taken (runCall t k s ws) → runCall t k s ws ≡ manySteps t k s ws
@@ -32,6 +37,12 @@ module _ (t : Tables) (k : Monitor) (s : ℕ) (ws : List ℕ) where
 
   pub reported-iff : (i : ℕ) → (runCall t k s ws .answer ≡ Reported (s + i)) ↔ (Taken (runCall t k s ws) × ReportsAt (answersOf t k s ws) i)
   reported-iff i = calls.reported t k s ws (case-of t k s ws) i
+
+  pub fits-again : (m : Mon) → Ready t k m → s + length ws ≤ 9223372036854775808 → RunStays t k m s ws
+  fits-again m d h = calls.run-stays t k m s ws d h
+
+pub no-words : (t : Tables) (k : Monitor) (s other : ℕ) → runCall t k s [] ≡ runCall t k other []
+no-words t k s other = calls.without-words t k s other
 
 module _ (t : Tables) (k : Monitor) (s w : ℕ) (ws : List ℕ) where
   pub refused-iff : (n : ℕ) → (runCall t k s (w ∷ ws) .answer ≡ NotRun n) ↔ Lowest n (answersOf t k s (w ∷ ws))
