@@ -3,3 +3,4 @@ pub mod Following
 pub mod Demand
 pub mod Starting
 pub mod OverRecord
+pub mod OverRun

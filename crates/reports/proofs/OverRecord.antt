@@ -31,7 +31,7 @@ module _ (t : Tables) (k₀ : Monitor) (m : Mon) (own : ruleMon t ≡ some m) (l
     pub ready : Ready t (monitorAt s) m
     pub reads : readMon m (monitorAt s .memory) 0 ≡ after m rec s
 
-  stands-at : (s : ℕ) → s ≤ 9223372036854775808 → StandsAt s
+  pub stands-at : (s : ℕ) → s ≤ 9223372036854775808 → StandsAt s
   unfolding monitorAt after
   stands-at zero h =
       let r = fresh-ready t k₀ m own lent in
