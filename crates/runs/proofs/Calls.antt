@@ -24,7 +24,7 @@ use Rattle.stepping.proofs.Memories.{read-back}
 use Rattle.stepping.proofs.Staying.{Ready, inside-own, stays-ready}
 use Rattle.runs.specs.declared.RunVerdict.{RunVerdict}
 use Rattle.runs.specs.declared.RunVerdict.the-variants.{Quiet, Reported, Refused as NotRun}
-use Rattle.runs.specs.Run.{answersOf, memoryAfter, reportOr, firstReport, Running, refuse, orRefuse, manySteps, inTime, runMon, runCall, Taken, Accepts, Each, Some, Lowest, ReportsAt}
+use Rattle.runs.specs.Run.{answersOf, memoryAfter, onReport, firstReport, Running, refuse, orRefuse, manySteps, inTime, runMon, runCall, Taken, Accepts, Each, Some, Lowest, ReportsAt}
 use Rattle.runs.proofs.Running.{below-in-time}
 
 -- ---- lists of answers

@@ -23,7 +23,7 @@ use Rattle.stepping.specs.Call as one
 use Rattle.stepping.proofs.Staying.{Ready, Stays, stays-ready}
 use Rattle.runs.specs.declared.RunVerdict.{RunVerdict}
 use Rattle.runs.specs.declared.RunVerdict.the-variants.{Quiet, Reported, Refused as NotRun}
-use Rattle.runs.specs.Run.{answersOf, memoryAfter, reportOr, firstReport, Running, refuse, orRefuse, manySteps, inTime, runMon, runCall, Answers, RunFit, firstOf}
+use Rattle.runs.specs.Run.{answersOf, memoryAfter, onReport, firstReport, Running, refuse, orRefuse, manySteps, inTime, runMon, runCall, Answers, RunFit, firstOf}
 
 -- ---- the steps below 2^63
 pub below-in-time : (s : ℕ) (ws : List ℕ) → s + length ws ≤ 9223372036854775808 → inTime s ws ≡ true
@@ -58,11 +58,11 @@ enough-steps s (w ∷ ws) h l = go (9223372036854775808 - s - length (w ∷ ws))
     go a (suc b) p q = lt-leb (length (w ∷ ws)) (9223372036854775808 - s) (omega arith) ∙ sym (past-late s w ws (omega arith))
 
 -- ---- the report of one call
-pub reports-here : (s : ℕ) (v : Verdict) (b : Bool) → v ≡ Accepted b → b ≡ true → Reported s ≡ reportOr s v Quiet
-reports-here s v b e h = sym (ap (λ (x : Verdict). reportOr s x Quiet) (e ∙ ap Accepted h))
+pub reports-here : (s : ℕ) (v : Verdict) (b : Bool) → v ≡ Accepted b → b ≡ true → Reported s ≡ onReport v (Reported s) Quiet
+reports-here s v b e h = sym (ap (λ (x : Verdict). onReport x (Reported s) Quiet) (e ∙ ap Accepted h))
 
 -- ---- the loop
-first-assoc : (s : ℕ) (v : Verdict) (r x : RunVerdict) → firstOf r (reportOr s v x) ≡ firstOf (firstOf r (reportOr s v Quiet)) x
+first-assoc : (s : ℕ) (v : Verdict) (r x : RunVerdict) → firstOf r (onReport v (Reported s) x) ≡ firstOf (firstOf r (onReport v (Reported s) Quiet)) x
 first-assoc s (Accepted true) Quiet x = refl
 first-assoc s (Accepted true) (Reported n) x = refl
 first-assoc s (Accepted true) (NotRun n) x = refl
@@ -148,7 +148,7 @@ module _ (t : Tables) (size : ℕ) (forms bounds : List ℕ) where
           to-answer : stepCall t (monOf mem) here (getD ws i 0) .answer ≡ v
           to-answer = ap (λ (c : Stepping). c .answer) same ∙ sym (a .answers)
 
-          pub along-next : (x r′ : RunVerdict) → x ≡ reportOr here v Quiet → r′ ≡ firstOf r x → Along mem₀ s ws mem′ r′ (here + 1) (i + 1)
+          pub along-next : (x r′ : RunVerdict) → x ≡ onReport v (Reported here) Quiet → r′ ≡ firstOf r x → Along mem₀ s ws mem′ r′ (here + 1) (i + 1)
           unfolding memoryAfter answersOf firstReport
           along-next x r′ p q = record {
             mon = d .mon;
@@ -162,7 +162,7 @@ module _ (t : Tables) (size : ℕ) (forms bounds : List ℕ) where
             answers =
                 ap (λ (y : RunVerdict). firstOf y (firstReport (here + 1) (answersOf t (monOf mem′) (here + 1) (drop (i + 1) ws)))) (q ∙ ap (firstOf r) p)
                 ∙ sym (first-assoc here v r (firstReport (here + 1) (answersOf t (monOf mem′) (here + 1) (drop (i + 1) ws))))
-                ∙ ap₂ (λ (z : Verdict) (y : Memory). firstOf r (reportOr here z (firstReport (here + 1) (answersOf t (monOf y) (here + 1) (drop (i + 1) ws))))) (sym to-answer) (sym to-memory)
+                ∙ ap₂ (λ (z : Verdict) (y : Memory). firstOf r (onReport z (Reported here) (firstReport (here + 1) (answersOf t (monOf y) (here + 1) (drop (i + 1) ws))))) (sym to-answer) (sym to-memory)
                 ∙ sym (ap (λ (l : List ℕ). firstOf r (firstReport here (answersOf t (monOf mem) here l))) rest)
                 ∙ d .answers;
           }

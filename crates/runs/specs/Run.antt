@@ -20,6 +20,12 @@ use Rattle.stepping.specs.Call.{Tables, Monitor, isLent, ruleMon, fits, stepCal
 use Rattle.runs.specs.declared.RunVerdict.{RunVerdict}
 use Rattle.runs.specs.declared.RunVerdict.the-variants.{Quiet, Reported, Refused as NotRun}
 
+-- one thing for an answer that reports, and another for one that does not
+abbrev pub onReport : {A : Type 0} → Verdict → A → A → A
+onReport (Accepted true) a b = a
+onReport (Accepted false) a b = b
+onReport (Refused n) a b = b
+
 -- ---- calls of `step`, one word each
 unfoldable pub answersOf : Tables → Monitor → ℕ → List ℕ → List Verdict
 answersOf t k s [] = []
@@ -29,15 +35,9 @@ unfoldable pub memoryAfter : Tables → Monitor → ℕ → List ℕ → Memory
 memoryAfter t k s [] = k .memory
 memoryAfter t k s (w ∷ ws) = memoryAfter t (with k (stepCall t k s w .memory)) (s + 1) ws
 
--- the call at s reported, or what came of the others
-abbrev pub reportOr : ℕ → Verdict → RunVerdict → RunVerdict
-reportOr s (Accepted true) r = Reported s
-reportOr s (Accepted false) r = r
-reportOr s (Refused n) r = r
-
 unfoldable pub firstReport : ℕ → List Verdict → RunVerdict
 firstReport s [] = Quiet
-firstReport s (v ∷ vs) = reportOr s v (firstReport (s + 1) vs)
+firstReport s (v ∷ vs) = onReport v (Reported s) (firstReport (s + 1) vs)
 
 -- ---- a run
 pub record Running : Type 0 where

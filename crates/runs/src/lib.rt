@@ -6,9 +6,9 @@ use stepping::call::is_shaped;
 use stepping::call::step_fit;
 ghost use mathlib.Core.Path.{_≡_};
 ghost use Rattle.stepping.specs.Call.{Known, ruleMon};
-ghost use Rattle.runs.specs.Run.{Answers, RunFit, firstOf, inTime, manySteps, reportOr, runCall, runMon};
+ghost use Rattle.runs.specs.Run.{Answers, RunFit, firstOf, inTime, manySteps, onReport, runCall, runMon};
 
-// Whether no word was reported; the first step that was; or the refusal of the whole run.
+// No word was reported; or the step of the first that was; or the refusal of the whole run.
 pub enum RunVerdict {
     Quiet,
     Reported(u64),
@@ -30,7 +30,7 @@ fn in_time(s: u64, words: &[u64]) -> bool
 
 // The report at s.
 fn report_at(v: Verdict, s: u64) -> RunVerdict
-    ensures { λ r. ⌜ r ≡ reportOr s v RunVerdict.Quiet ⌝ }
+    ensures { λ r. ⌜ r ≡ onReport v (RunVerdict.Reported s) RunVerdict.Quiet ⌝ }
 {
     let Verdict::Accepted(b) = v else {
         return RunVerdict::Quiet;
