@@ -1,0 +1,3 @@
+-- Laws of a monitor struct's calls.
+pub mod Answering
+pub mod Lent

@@ -1,0 +1,53 @@
+-- The calls on a monitor struct: it is read as the lent monitor of crates/stepping, and each call is that crate's call on it.
+use mathlib.Core.List.{List}
+use Prim.Native.Nat.{ℕ}
+use Rattle.stepping.specs.declared.call.Verdict.{Verdict}
+use Rattle.stepping.specs.declared.fresh.Outcome.{Outcome}
+use Rattle.stepping.specs.declared.fresh.Outcome.the-variants.{Made, Refused}
+use Rattle.stepping.specs.Memory.{Memory}
+use Rattle.stepping.specs.Call as Lent
+use Rattle.stepping.specs.Call.{Tables, stepCall}
+use Rattle.stepping.specs.Fresh.{making}
+use Rattle.in_place.specs.declared.Monitor.{Monitor}
+use Rattle.in_place.specs.declared.step.Advanced.{Advanced}
+use Rattle.in_place.specs.declared.fresh.Started.{Started}
+
+-- the node states of a monitor struct
+abbrev pub memoryOf : Monitor → Memory
+memoryOf m = record { held = m .held; remaining = m .remaining; failed = m .failed; culprits = m .culprits }
+
+-- the monitor that a struct holds
+abbrev pub monitorOf : Monitor → Lent.Monitor
+monitorOf m = record { size = m .size; forms = m .forms; bounds = m .bounds; memory = memoryOf m }
+
+-- the struct that holds a monitor
+abbrev pub structOf : Lent.Monitor → Monitor
+structOf k = record {
+  size = k .size;
+  forms = k .forms;
+  bounds = k .bounds;
+  held = k .memory .held;
+  remaining = k .memory .remaining;
+  failed = k .memory .failed;
+  culprits = k .memory .culprits;
+}
+
+-- a step call: the count of nodes, the forms and the bounds stay, and a refusal leaves the states as they were (`stepCall`)
+unfoldable pub stepIn : Tables → Monitor → ℕ → ℕ → Advanced
+stepIn t m s w = record {
+  monitor = structOf (record { size = m .size; forms = m .forms; bounds = m .bounds; memory = stepCall t (monitorOf m) s w .memory });
+  verdict = stepCall t (monitorOf m) s w .answer;
+}
+
+-- the count of nodes after making a monitor: a refusal leaves it
+abbrev pub sizeAfter : Outcome → ℕ → ℕ
+sizeAfter (Made n) size = n
+sizeAfter (Refused n) size = size
+
+unfoldable pub freshIn : Tables → Monitor → Started
+freshIn t m =
+    let c = making t (m .forms) (m .bounds) (memoryOf m) in
+    record {
+      monitor = structOf (record { size = sizeAfter (c .answer) (m .size); forms = c .forms; bounds = c .bounds; memory = c .memory });
+      outcome = c .answer;
+    }
