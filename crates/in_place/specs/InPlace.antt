@@ -7,7 +7,7 @@ use Rattle.stepping.specs.declared.fresh.Outcome.the-variants.{Made, Refused}
 use Rattle.stepping.specs.Memory.{Memory}
 use Rattle.stepping.specs.Call as Lent
 use Rattle.stepping.specs.Call.{Tables, stepCall}
-use Rattle.stepping.specs.Fresh.{making}
+use Rattle.stepping.specs.Fresh.{Making, making}
 use Rattle.in_place.specs.declared.Monitor.{Monitor}
 use Rattle.in_place.specs.declared.step.Advanced.{Advanced}
 use Rattle.in_place.specs.declared.fresh.Started.{Started}
@@ -44,10 +44,13 @@ abbrev pub sizeAfter : Outcome → ℕ → ℕ
 sizeAfter (Made n) size = n
 sizeAfter (Refused n) size = size
 
+-- what a call that makes a monitor leaves of a struct of `size` nodes
+abbrev pub startedOf : Making → ℕ → Started
+startedOf c size = record {
+  monitor = structOf (record { size = sizeAfter (c .answer) size; forms = c .forms; bounds = c .bounds; memory = c .memory });
+  outcome = c .answer;
+}
+
+-- making a monitor: its nodes' forms and bounds and cleared states, or the refusal and the struct as it was (`making`)
 unfoldable pub freshIn : Tables → Monitor → Started
-freshIn t m =
-    let c = making t (m .forms) (m .bounds) (memoryOf m) in
-    record {
-      monitor = structOf (record { size = sizeAfter (c .answer) (m .size); forms = c .forms; bounds = c .bounds; memory = c .memory });
-      outcome = c .answer;
-    }
+freshIn t m = startedOf (making t (m .forms) (m .bounds) (memoryOf m)) (m .size)

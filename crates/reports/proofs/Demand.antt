@@ -39,7 +39,8 @@ module _ (t : Tables) (k₀ : Monitor) (m : Mon) (own : ruleMon t ≡ some m) (l
   abbrev pub code : Machine Memory StepCall
   code = machine (start .size) (start .forms) (start .bounds)
 
-  starts : ReadsAs m (start .memory) (Rattle.meaning.specs.State.fresh m)
+  -- it reads as the fresh state
+  pub starts : ReadsAs m (start .memory) (Rattle.meaning.specs.State.fresh m)
   starts =
       let d : Known t k₀ = record { mon = m; is = own; lent = lent } in
       let o = stood (t .ops) (t .nums) (t .first) (t .count) (t .nodes) (t .nfirst) (t .ncount) m own in

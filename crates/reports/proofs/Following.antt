@@ -31,11 +31,11 @@ use Rattle.stepping.proofs.Standings.{stood}
 use Rattle.reports.specs.Calls.{StepCall, replyOf, callOf, monitorOf, outcome, machine, OwnTable, ReadsAs}
 
 -- ---- what a call can answer
-data Answered (t : Tables) (k : Monitor) (s w : ℕ) (c : Stepping) : Type 0 where
+pub data Answered (t : Tables) (k : Monitor) (s w : ℕ) (c : Stepping) : Type 0 where
   no-step : (n : ℕ) → c ≡ refuse n (k .memory) → Answered t k s w c
   steps : (d : Known t k) → c ≡ accept (d .mon) (k .memory) s w → Answered t k s w c
 
-answered : (t : Tables) (k : Monitor) (s w : ℕ) → Answered t k s w (stepCall t k s w)
+pub answered : (t : Tables) (k : Monitor) (s w : ℕ) → Answered t k s w (stepCall t k s w)
 unfolding stepCall
 answered t k s w = lent (isLent t k) refl
   where

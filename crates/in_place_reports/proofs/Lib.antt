@@ -1,0 +1,3 @@
+-- Demand 3 of the calls on a monitor struct.
+pub mod Answers
+pub mod Demand
