@@ -1,0 +1,2 @@
+-- Laws of a rule's lines.
+pub mod Sections

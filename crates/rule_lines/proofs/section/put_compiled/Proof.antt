@@ -1,0 +1,35 @@
+use Rattle.rule_lines.proofs.Sections.{nodes-ready, nodes-wrote, nodes-none}
+use borrow.Author.Needs.{needs}
+use Rattle.rule_lines.proofs.section.put_compiled.Statement.{statement}
+use Rattle.rule_lines.proofs.section.put_compiled.Tie as tie
+use Rattle.rule_lines.proofs.section.put_compiled.Reads as reads
+use Rattle.rule_lines.proofs.section.put_compiled.Lts as lts
+use Rattle.node_lines.proofs.put_nodes.Reads as put-nodes-reads
+
+-- src/section.rt:95:30
+enum-told : tie.Need-enum-told
+enum-told c = search needs
+
+-- src/section.rt:95:13
+put-nodes-requires : tie.Need-put-nodes-requires
+put-nodes-requires c κs = search (needs, nodes-ready)
+
+-- src/section.rt:95:13
+same-length : tie.Need-same-length
+same-length c = search needs
+
+-- src/section.rt:95:13
+returns : tie.Need-returns
+returns c = search (needs, nodes-wrote)
+
+-- src/section.rt:98:13
+enum-told-2 : tie.Need-enum-told-2
+enum-told-2 c = search needs
+
+-- src/section.rt:98:13
+returns-2 : tie.Need-returns-2
+returns-2 c = search (needs, nodes-none)
+
+pub put-compiled-spec : {M : Type 1} → statement M
+put-compiled-spec =
+    tie.close (tie.spec enum-told put-nodes-requires same-length returns enum-told-2 returns-2)

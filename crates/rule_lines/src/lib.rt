@@ -1,0 +1,2 @@
+// The lines of one rule of a listing.
+pub mod section;
