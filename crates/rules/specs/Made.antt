@@ -72,7 +72,7 @@ pub record Entering (ops nums : List ℕ) (first count r at at′ : ℕ) (nodes 
   pub is : (q : Rule) → Stands ops nums first count q → Entered q r at at′ nodes nodes′ nfirsts nfirsts′ ncounts ncounts′ refusals refusals′
 
 -- ---- all rules
--- some rules stand in the formula table, and there is room for their rows and their numbers
+-- some rules stand in the formula table, and there is room for their numbers and rows: 1,024, and 256 past the last start
 pub record Fillable (ops nums kinds firsts counts nodes nfirsts ncounts refusals : List ℕ) (n : ℕ) : Type 0 where
   pub rules : ℕ → Rule
   pub held : Held ops nums kinds firsts counts rules n
