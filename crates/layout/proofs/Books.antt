@@ -1,29 +1,24 @@
 -- The answers of the layout over a book.
-use mathlib.Core.Path.{_≡_, refl, sym, ap, ap₂, subst, _∙_}
-use mathlib.Core.Bool.{Bool, true, false, _&&_, not}
+use mathlib.Core.Path.{_≡_, refl, sym, ap, ap₂, _∙_}
+use mathlib.Core.Bool.{Bool, true, false, _&&_}
 use mathlib.Core.List.{List, [], _∷_, _++_}
-use mathlib.Core.Option.{Option, none, some}
+use mathlib.Core.Option.{Option}
 use mathlib.Core.Logic.{⊎-elim}
 use Prim.Native.Nat.{ℕ, zero, suc, _+_, _≤_, _<_}
 use native.Mathlib.Omega.{arith}
 use native.Mathlib.Numerals.{add-one}
-use borrow.Author.Tests.{le-leb, lt-leb, leb-true, eq-eqb, ne-eqb, eqb-true}
-use lib.Dec.{leb, ltb, eqb}
+use borrow.Author.Tests.{le-leb, lt-leb, leb-true, eq-eqb, ne-eqb}
+use lib.Dec.{leb}
 use lib.ListN.{length, getD}
 use lib.Seq.{sets}
-use Rattle.formula.specs.Table.{roomy, isSome}
-use Rattle.formula.proofs.Cases.{below-or, true-or, true-false}
+use Rattle.formula.specs.Table.{isSome}
+use Rattle.formula.proofs.Cases.{below-or}
 use Rattle.formula.proofs.Walks.{both-true}
 use Rattle.monitor.specs.Mon.{Mon}
-use Rattle.monitor.specs.Table.{compiledOf}
-use Rattle.plan.specs.Width.{pick}
-use Rattle.plan.specs.Layout.{bits}
-use Rattle.plan.specs.Rows.{rowBits, Part}
-use Rattle.plan.specs.Book.{bitsBelow, properties, assumptions, firstBit, listed, kept, filledIn, isZero, partBits, Rowed, Arranged}
+use Rattle.plan.specs.Book.{firstBit, listed, kept, filledIn, isZero, partBits, Rowed, Arranged}
 use Rattle.plan.proofs.Rows.{table-bits}
 use Rattle.plan.proofs.Books.{pick-same, same-first}
 use Rattle.layout.specs.Entry.{roomyNodes, roomyRules, monAt, bitsIn, fine, fineOf, allBelow, Outcome, outcome, pickOutcome, sound, laidOut, layoutOf, InRules, InRulesUpto}
-use Rattle.layout.specs.declared.book.Laid.{Laid}
 use Rattle.layout.specs.declared.book.Laid.the-variants.{Done, Refused}
 use Rattle.layout.proofs.Rules.{some-mon, part-compiled}
 

@@ -1,26 +1,23 @@
 -- The answers of the calls over one rule.
-use mathlib.Core.Path.{_≡_, refl, sym, ap, ap₂, subst, _∙_}
+use mathlib.Core.Path.{_≡_, refl, sym, ap, ap₂, _∙_}
 use mathlib.Core.Bool.{Bool, true, false, _&&_}
-use mathlib.Core.List.{List, [], _∷_}
+use mathlib.Core.List.{List}
 use mathlib.Core.Option.{Option, none, some}
 use Prim.Native.Nat.{ℕ, zero, suc, _+_, _≤_, _<_}
-use native.Mathlib.Omega.{arith}
 use borrow.Author.Tests.{le-leb, lt-leb, lt-ltb, le-ltb}
-use lib.Dec.{leb, ltb}
+use lib.Dec.{ltb}
 use lib.ListN.{length}
 use Rattle.formula.specs.Table.{roomy, isSome}
 use Rattle.formula.proofs.Cases.{true-false}
 use Rattle.monitor.specs.Mon.{Mon}
 use Rattle.monitor.specs.Table.{compiledOf}
-use Rattle.plan.specs.Layout.{pieces, bits, slotIn, total}
-use Rattle.plan.specs.Rows.{rowPieces, rowBits, Summed, Part}
+use Rattle.plan.specs.Layout.{pieces, slotIn}
+use Rattle.plan.specs.Rows.{rowPieces, Summed, Part}
 use Rattle.plan.specs.declared.layout.Slot.{Slot}
 use Rattle.plan.specs.declared.layout.Piece.{Piece}
 use Rattle.plan.proofs.Rows.{rows-pieces, over-formula, table-bits, table-part}
 use Rattle.layout.specs.Entry.{roomyNodes, bitsBy, ruleBitsOf, pickSlot, slotBy, nodeSlotOf}
-use Rattle.layout.specs.declared.rule.RuleBits.{RuleBits}
 use Rattle.layout.specs.declared.rule.RuleBits.the-variants.{Bits, Refused as BitsRefused}
-use Rattle.layout.specs.declared.rule.NodeSlot.{NodeSlot}
 use Rattle.layout.specs.declared.rule.NodeSlot.the-variants.{At, Refused as SlotRefused}
 
 module _ (ops nums nodes : List ℕ) where

@@ -1,30 +1,27 @@
 -- One rule compiled into the node table, and entered in the lists.
-use mathlib.Core.Path.{_≡_, refl, sym, ap, ap₂, subst, _∙_}
-use mathlib.Core.Bool.{Bool, true, false, _&&_}
+use mathlib.Core.Path.{_≡_, refl, sym, ap, ap₂, _∙_}
+use mathlib.Core.Bool.{Bool, false, _&&_}
 use mathlib.Core.List.{List, [], _∷_, _++_, append-nil, append-assoc}
-use mathlib.Core.Option.{Option, none, some}
-use Prim.Native.Nat.{ℕ, zero, suc, _+_, _-_, _*_, _≤_, _<_, _^_}
+use mathlib.Core.Option.{Option}
+use Prim.Native.Nat.{ℕ, _+_, _-_, _*_, _≤_}
 use native.Mathlib.Omega.{arith}
-use native.Mathlib.Nat.{add-zero, zero-add}
 use borrow.Author.Tests.{le-leb}
 use mir.Val.{Fits}
 use mir.Syntax.{w64}
-use lib.ListN.{length, getD, set, take, drop, length-drop}
-use lib.Seq.{sets, sets-eq, take-all, take-length, drop-length, drop-drop}
-use Rattle.formula.specs.Tree.{size}
+use lib.ListN.{length, set, take, drop, length-drop}
+use lib.Seq.{sets, sets-eq, take-all, drop-length, drop-drop}
 use Rattle.formula.specs.Formula.{Formula}
-use Rattle.formula.specs.Table.{ruleOf, roomy, Rule as IsRuleOf, IsRule}
+use Rattle.formula.specs.Table.{Rule as IsRuleOf, IsRule}
 use Rattle.formula.proofs.Rules.{rule-inv, both-long}
-use Rattle.formula.proofs.Trees.{some-inj}
 use Rattle.monitor.specs.Range.{allOf}
-use Rattle.monitor.specs.Mon.{Mon, count, rows}
+use Rattle.monitor.specs.Mon.{Mon, count}
 use Rattle.monitor.specs.Compile.{ruleFaults, ruleNode}
 use Rattle.compiler.specs.declared.Compiled.{Compiled}
 use Rattle.compiler.specs.declared.Compiled.the-variants.{Nodes, Refused}
 use Rattle.compiler.specs.Compiled.{Call, firstOr, compileFormula, orShort, ruleCall, compileCall, Answers}
 use Rattle.compiler.proofs.Joining.{count-size, rows-length}
 use Rattle.rules.specs.Rules.{Rule, firstOf, refusal, mon}
-use Rattle.rules.specs.Made.{answerBy, rowsBy, countBy, answerOf, rowsOf, countOf, Stands, Made, Enterable, Entered, Entering}
+use Rattle.rules.specs.Made.{answerBy, rowsBy, countBy, rowsOf, countOf, Stands, Made, Entering}
 
 -- ---- the numbers of one rule
 -- a rule has at most one row for each of its nodes

@@ -4,13 +4,11 @@ use mathlib.Core.Path.{_≡_, refl, sym, ap, ap₂, subst, _∙_}
 use mathlib.Core.Bool.{Bool, true, false, _&&_}
 use mathlib.Core.Logic.{⊎-elim}
 use mathlib.Core.List.{List}
-use mathlib.Core.Option.{Option, none, some}
 use Prim.Native.Nat.{ℕ, zero, suc, _+_, _≤_, _<_}
 use native.Mathlib.Omega.{arith}
 use native.Mathlib.Numerals.{add-one}
-use lib.ListN.{length, getD}
+use lib.ListN.{getD}
 use Rattle.formula.proofs.Cases.{below-or}
-use Rattle.monitor.specs.Mon.{Mon}
 use Rattle.alike.specs.Alike.{alikeMon, partOf, alikeSome}
 use Rattle.alike.specs.Rows.{IsCompiled}
 use Rattle.alike.specs.declared.Part.{Part}

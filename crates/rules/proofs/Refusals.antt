@@ -1,16 +1,15 @@
 -- A refusal's number is never 0, so that 0 in the list of refusals says that a rule compiles.
-use mathlib.Core.Path.{_≡_, refl, sym, ap, ap₂, subst, _∙_}
+use mathlib.Core.Path.{_≡_, refl, sym, ap, _∙_}
 use mathlib.Core.Bool.{Bool, true, false}
 use mathlib.Core.List.{List, [], _∷_, _++_}
-use Prim.Native.Nat.{ℕ, zero, suc, _+_, _≤_, _<_}
+use Prim.Native.Nat.{ℕ, _<_}
 use native.Mathlib.Omega.{arith}
-use borrow.Author.Tests.{eq-eqb, ne-eqb, eqb-true}
+use borrow.Author.Tests.{eq-eqb, ne-eqb}
 use lib.Dec.{eqb}
-use lib.ListN.{length, getD}
+use lib.ListN.{getD}
 use Rattle.formula.specs.Tree.{leaf, one, two}
 use Rattle.formula.specs.Formula.{Formula, not, next, always, eventually, always-for, within, and, or, implies, until}
 use Rattle.formula.specs.Pure.{pure}
-use Rattle.formula.proofs.Cases.{true-false}
 use Rattle.monitor.specs.Compile.{when, unless, consequent, faults, ruleFaults}
 use Rattle.plan.specs.Book.{isZero}
 use Rattle.rules.specs.Rules.{Rule, isNone, firstOf, compiles, refusal}

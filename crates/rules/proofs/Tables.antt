@@ -2,20 +2,19 @@
 --     SoFar      for rules R: the rows of each stand in the node table, one behind the other, at most one for each place of its formula
 --     Filling    the loop's invariant: so for whatever rules the formula table holds
 use mathlib.Core.Path.{_≡_, refl, sym, ap, ap₂, subst, _∙_}
-use mathlib.Core.Bool.{Bool, true, false}
+use mathlib.Core.Bool.{true}
 use mathlib.Core.Logic.{⊎-elim}
-use mathlib.Core.List.{List, [], _∷_}
-use mathlib.Core.Option.{Option, some}
-use Prim.Native.Nat.{ℕ, zero, suc, _+_, _*_, _≤_, _<_}
+use mathlib.Core.List.{List}
+use mathlib.Core.Option.{some}
+use Prim.Native.Nat.{ℕ, _+_, _*_, _≤_, _<_}
 use native.Mathlib.Omega.{arith}
 use lib.ListN.{length, getD, set, length-set}
 use lib.Seq.{sets, length-sets, getD-set-same, getD-set-other}
-use Rattle.formula.specs.Table.{ruleOf, Rule as IsRuleOf, IsRule}
+use Rattle.formula.specs.Table.{ruleOf, IsRule}
 use Rattle.formula.proofs.Cases.{below-or}
 use Rattle.formula.proofs.Rules.{rule-inv}
-use Rattle.monitor.specs.Mon.{Mon, count, rows}
+use Rattle.monitor.specs.Mon.{count, rows}
 use Rattle.monitor.specs.Table.{compiledOf}
-use Rattle.monitor.specs.Compile.{ruleFaults, ruleNode}
 use Rattle.compiled.proofs.ReadsBack.{Stored, stored, stored-before, reads-stored}
 use Rattle.rules.specs.Rules.{Rule, compiles, refusal, mon}
 use Rattle.rules.specs.Tabled.{Held, Tabled}

@@ -1,14 +1,12 @@
 -- The last four fields of a rule's line.
-use mathlib.Core.Path.{_≡_, refl, sym, ap, ap₂, subst, _∙_}
-use mathlib.Core.Bool.{Bool, true, false}
+use mathlib.Core.Path.{_≡_, sym, ap, ap₂, _∙_}
+use mathlib.Core.Bool.{Bool, true}
 use mathlib.Core.List.{List}
-use Prim.Native.Nat.{ℕ, _≤_, _<_}
-use lib.ListN.{length, getD}
+use Prim.Native.Nat.{ℕ}
+use lib.ListN.{getD}
 use Rattle.lines.specs.declared.rule.Alike.{Alike}
-use Rattle.lines.specs.declared.rule.Compiling.{Compiling}
 use Rattle.lines.specs.declared.rule.Compiling.the-variants.{Compiled, Refused}
-use Rattle.rules.specs.Rules.{Rule, compiles, refusal, bitsOf, firstBitOf, likeOf, firstBelow, pickCompiling, compilingOf}
-use Rattle.rules.specs.Tabled.{Tabled, Placed}
+use Rattle.rules.specs.Rules.{compiles, refusal, bitsOf, firstBitOf, likeOf, firstBelow, pickCompiling, compilingOf}
 use Rattle.rules.specs.Answers.{Known, Earlier, Tellable, Told}
 use Rattle.rules.proofs.Refusals.{zero-compiles, other-refused}
 
