@@ -5,3 +5,4 @@ pub mod Turns
 pub mod Lines
 pub mod Steps
 pub mod Runs
+pub mod Tables

@@ -14,7 +14,7 @@ use Rattle.book.specs.Book.{StepLine}
 use Rattle.reader.specs.Steps.{stepsFrom}
 use Rattle.text.specs.Tape.{Tape, Wrote}
 use Rattle.rules.specs.Rules.{Rule}
-use Rattle.listing_text.specs.Listing.{States, nextStates, Report, breaks, reportOf, reportsAt, reports, reportLines}
+use Rattle.listing_text.specs.Listing.{States, freshStates, nextStates, Report, breaks, reportOf, reportsAt, reports, reportLines}
 use Rattle.stepped_lines.specs.Holding.{Rows, Holding}
 
 abbrev pub lineOf : ℕ → ℕ → StepLine
@@ -72,3 +72,13 @@ pub record LinesDue (text ops nums nodes nfirsts refusals : List ℕ) (n : ℕ) 
 pub record LinesStepped (text : List ℕ) (from : ℕ) (ops nums nodes nfirsts refusals : List ℕ) (n : ℕ) (mem : Memory) (before after : Tape) (written : ℕ) : Type 0 where
   pub wrote : (R : ℕ → Rule) (st : States R) → Rows ops nums nodes nfirsts refusals R n → Holding nfirsts R n st mem → Wrote before (reportLines (reports R n st (stepsFrom text from))) after
   pub counted : (R : ℕ → Rule) (st : States R) → Rows ops nums nodes nfirsts refusals R n → Holding nfirsts R n st mem → written ≡ length (reports R n st (stepsFrom text from))
+
+-- ---- the same from fresh monitors
+pub record StepsDue (text ops nums nodes nfirsts refusals : List ℕ) (n : ℕ) : Type 0 where
+  pub rules : ℕ → Rule
+  pub rows : Rows ops nums nodes nfirsts refusals rules n
+  pub short : length text ≤ 65535
+
+pub record StepsReported (text : List ℕ) (from : ℕ) (ops nums nodes nfirsts refusals : List ℕ) (n : ℕ) (before after : Tape) (written : ℕ) : Type 0 where
+  pub wrote : (R : ℕ → Rule) → Rows ops nums nodes nfirsts refusals R n → Wrote before (reportLines (reports R n (freshStates R) (stepsFrom text from))) after
+  pub counted : (R : ℕ → Rule) → Rows ops nums nodes nfirsts refusals R n → written ≡ length (reports R n (freshStates R) (stepsFrom text from))

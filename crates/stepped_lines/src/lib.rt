@@ -6,7 +6,7 @@ use stepping::walk::step_node;
 ghost use Rattle.stepping.specs.Memory.{Memory};
 ghost use Rattle.stepping.specs.Walk.{Walkable};
 ghost use Rattle.text.specs.Tape.{tape};
-ghost use Rattle.stepped_lines.specs.Stepped.{RuleStepped, Due, OneStepped, LineDue, LineStepped, LinesDue, LinesStepped};
+ghost use Rattle.stepped_lines.specs.Stepped.{RuleStepped, Due, OneStepped, LineDue, LineStepped, LinesDue, LinesStepped, StepsDue, StepsReported};
 
 // The place behind the written lines, and their count.
 pub struct Reported {
@@ -77,7 +77,8 @@ fn report_rule(
     let k = nfirsts[r];
     let broken = step_rule(ops, nums, nodes, held, remaining, failed, culprits, k, s, w);
     if broken {
-        let place = put_report(out, at, s, r as u64, culprits[k]);
+        let culprit = culprits[k];
+        let place = put_report(out, at, s, r as u64, culprit);
         return Reported {
             at: place,
             count: 1,
@@ -155,12 +156,15 @@ pub fn put_reports(
     ensures { λ p. ⌜ LinesStepped (now (text .entry)) from (now (ops .entry)) (now (nums .entry)) (now (nodes .entry)) (now (nfirsts .entry)) (now (refusals .entry)) n (record { held = now (held .entry); remaining = now (remaining .entry); failed = now (failed .entry); culprits = now (culprits .entry) }) (tape (now (out .entry)) at) (tape (now (out .exit)) (p .at)) (p .count) ⌝ }
 {
     let mut place = at;
-    let mut count: u64 = 0;
+    let mut total: u64 = 0;
     let mut cursor = from;
     loop {
         let read = next_step(text, cursor);
         let StepRead::Step { step, truths, next } = read else {
-            return Reported { at: place, count };
+            return Reported {
+                at: place,
+                count: total,
+            };
         };
         let p = step_rules(
             ops,
@@ -179,7 +183,45 @@ pub fn put_reports(
             place,
         );
         place = p.at;
-        count += p.count;
+        total += p.count;
         cursor = next;
     }
+}
+
+// The same from fresh monitors: nothing pending, failed or remembered, and every culprit minus 1.
+pub fn report_steps(
+    text: &[u8],
+    from: usize,
+    ops: &[u8],
+    nums: &[u64],
+    nodes: &[u64],
+    nfirsts: &[usize],
+    refusals: &[u64],
+    n: usize,
+    out: &mut [u8],
+    at: usize,
+) -> Reported
+    requires { ⌜ StepsDue (now text) (now ops) (now nums) (now nodes) (now nfirsts) (now refusals) n ⌝ }
+    ensures { λ p. ⌜ StepsReported (now (text .entry)) from (now (ops .entry)) (now (nums .entry)) (now (nodes .entry)) (now (nfirsts .entry)) (now (refusals .entry)) n (tape (now (out .entry)) at) (tape (now (out .exit)) (p .at)) (p .count) ⌝ }
+{
+    let mut held = [false; 1280];
+    let mut remaining = [0u64; 1280];
+    let mut failed = [false; 1280];
+    let mut culprits = [-1i64; 1280];
+    put_reports(
+        text,
+        from,
+        ops,
+        nums,
+        nodes,
+        nfirsts,
+        refusals,
+        n,
+        &mut held,
+        &mut remaining,
+        &mut failed,
+        &mut culprits,
+        out,
+        at,
+    )
 }

@@ -68,8 +68,8 @@ step-rules-requires : tie.Need-step-rules-requires Inv-loop μ-loop
 step-rules-requires c κs = search (needs, ran-due)
 
 -- src/lib.rt:182:9
-add-count : tie.Need-add-count Inv-loop μ-loop
-add-count c = search needs
+add-total : tie.Need-add-total Inv-loop μ-loop
+add-total c = search needs
 
 -- src/lib.rt:160:5
 loop-less : tie.Need-loop-less Inv-loop μ-loop
@@ -96,6 +96,6 @@ put-reports-spec =
     same-length-5
     returns
     step-rules-requires
-    add-count
+    add-total
     loop-less
     loop-again)

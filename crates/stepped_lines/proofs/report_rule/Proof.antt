@@ -32,40 +32,40 @@ shared-slice-read-k c = search needs
 step-rule-requires : tie.Need-step-rule-requires
 step-rule-requires c κs = search (needs, turn-walks)
 
--- src/lib.rt:80:54
-mul-put-report : tie.Need-mul-put-report
-mul-put-report c = omega (arith, turn-low _ _ _ _ _ _ _ _ _ _ (c .before .before .before .before .before .before .before .before .before .before .before .before .before .before .before .before .before .before .before .before .before .before .before .before .before .before .pre) (c .before .before .before .before .before .before .before .before .before .before .before .before .before .before .before .if1 .left))
+-- src/lib.rt:80:23
+mul-culprit : tie.Need-mul-culprit
+mul-culprit c = omega (arith, turn-low _ _ _ _ _ _ _ _ _ _ (c .before .before .before .before .before .before .before .before .before .before .before .before .before .before .before .before .before .before .before .before .before .before .before .before .before .pre) (c .before .before .before .before .before .before .before .before .before .before .before .before .before .before .if1 .left))
 
--- src/lib.rt:80:54
-slice-copy-out-put-report : tie.Need-slice-copy-out-put-report
-slice-copy-out-put-report c = omega (arith, turn-room _ _ _ _ _ _ _ _ _ _ (c .before .before .before .before .before .before .before .before .before .before .before .before .before .before .before .before .before .before .before .before .before .before .before .before .before .before .pre) (c .before .before .before .before .before .before .before .before .before .before .before .before .before .before .before .if1 .left), c .before .before .before .before .before .before .before .before .before .step-rule .kept)
+-- src/lib.rt:80:23
+slice-copy-out-culprit : tie.Need-slice-copy-out-culprit
+slice-copy-out-culprit c = omega (arith, turn-room _ _ _ _ _ _ _ _ _ _ (c .before .before .before .before .before .before .before .before .before .before .before .before .before .before .before .before .before .before .before .before .before .before .before .before .before .pre) (c .before .before .before .before .before .before .before .before .before .before .before .before .before .before .if1 .left), c .before .before .before .before .before .before .before .before .step-rule .kept)
 
--- src/lib.rt:80:13
+-- src/lib.rt:81:13
 put-report-requires : tie.Need-put-report-requires
 put-report-requires c κs =
     search (needs, turn-culprit _ _ _ _ _ _ _ _ _ _ (c .before .before .before .before .before .before .before .before .before .before .before .before .before .before .before .before .before .before .before .before .before .before .before .before .before .before .before .pre) (c .before .before .before .before .before .before .before .before .before .before .before .before .before .before .before .before .if1 .left) _ _ (c .before .before .before .before .before .before .before .before .before .before .step-rule .ensures))
 
--- src/lib.rt:81:9
+-- src/lib.rt:82:9
 same-length : tie.Need-same-length
 same-length c = search needs
 
--- src/lib.rt:81:9
+-- src/lib.rt:82:9
 same-length-2 : tie.Need-same-length-2
 same-length-2 c = search needs
 
--- src/lib.rt:81:9
+-- src/lib.rt:82:9
 same-length-3 : tie.Need-same-length-3
 same-length-3 c = search needs
 
--- src/lib.rt:81:9
+-- src/lib.rt:82:9
 same-length-4 : tie.Need-same-length-4
 same-length-4 c = search needs
 
--- src/lib.rt:81:9
+-- src/lib.rt:82:9
 same-length-5 : tie.Need-same-length-5
 same-length-5 c = search needs
 
--- src/lib.rt:81:9
+-- src/lib.rt:82:9
 returns-2 : tie.Need-returns-2
 returns-2 c = search (needs, turn-broken)
 
@@ -99,8 +99,8 @@ report-rule-spec =
     mul-k
     shared-slice-read-k
     step-rule-requires
-    mul-put-report
-    slice-copy-out-put-report
+    mul-culprit
+    slice-copy-out-culprit
     put-report-requires
     same-length
     same-length-2

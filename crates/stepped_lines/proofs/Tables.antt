@@ -1,0 +1,123 @@
+-- Where stepping starts: the rows of a book's compiled rules, and a cleared memory that holds the fresh states.
+use mathlib.Core.Path.{_≡_, refl, sym, ap, subst, _∙_}
+use mathlib.Core.Bool.{Bool, true, false}
+use mathlib.Core.List.{List}
+use Prim.Native.Nat.{ℕ, _+_, _*_, _≤_, _<_}
+use native.Mathlib.Omega.{arith}
+use lib.IntN.{ℤ, pos}
+use lib.ListN.{length, getD, replicate, length-replicate, getD-replicate}
+use Rattle.formula.proofs.Cases.{true-false}
+use Rattle.monitor.specs.Mon.{Check, range-check, delayed-check, obligation, Mon, check, And, Or, count}
+use Rattle.meaning.specs.Culprit.{minus-one}
+use Rattle.meaning.specs.State.{State, FromMinusOne, fresh}
+use Rattle.meaning.proofs.Meaning.{fresh-shaped}
+use Rattle.stepping.specs.declared.state.NodeState.{NodeState}
+use Rattle.stepping.specs.Memory.{Memory, get, Inside}
+use Rattle.stepping.specs.Walk.{ShapedEntry, ShapedAt, readMon}
+use Rattle.stepping.specs.Fresh.{cleared}
+use Rattle.stepping.proofs.Memories.{inside-less, read-same}
+use Rattle.stepping.proofs.Standings.{Stood, stood}
+use Rattle.reports.proofs.Following.{clear-entry, fresh-reads}
+use Rattle.text.specs.Tape.{Tape}
+use Rattle.rules.specs.Rules.{Rule, compiles, mon}
+use Rattle.rules.specs.Tabled.{Tabled}
+use Rattle.listing_text.specs.Listing.{freshStates}
+use Rattle.stepped_lines.specs.Holding.{Rows, Holds, Holding}
+use Rattle.stepped_lines.specs.Stepped.{LinesDue, LinesStepped, StepsDue, StepsReported}
+
+-- ---- the rows
+pub tabled-rows : (ops nums firsts counts nodes nfirsts ncounts refusals : List ℕ) (R : ℕ → Rule) (n : ℕ) → Tabled ops nums firsts counts nodes nfirsts ncounts refusals R n → Rows ops nums nodes nfirsts refusals R n
+tabled-rows ops nums firsts counts nodes nfirsts ncounts refusals R n t = record {
+  few = t .few;
+  in-nfirsts = omega (arith, t .few, t .in-nfirsts);
+  in-refusals = omega (arith, t .few, t .in-refusals);
+  refused = t .refused;
+  stands = λ r h c. known r h c .stands;
+  in-nodes = λ r h c. omega (arith, known r h c .in-nodes, known r h c .counted);
+  room = λ r h c. omega (arith, t .room r h c, known r h c .counted);
+  apart = λ q r l h c d. omega (arith, t .apart q r l h c d, known q (omega arith) c .counted);
+}
+  where
+    known : (r : ℕ) → r < n → compiles (R r) ≡ true → Stood ops nums nodes (getD nfirsts r 0) (getD ncounts r 0) (mon (R r))
+    known r h c = stood ops nums (getD firsts r 0) (getD counts r 0) nodes (getD nfirsts r 0) (getD ncounts r 0) (mon (R r)) (t .compiled r h c)
+
+-- ---- the fresh states
+-- nothing pending, failed or remembered, and every culprit minus 1
+abbrev pub blanks : ℕ → Memory
+blanks n = record {
+  held = replicate n false;
+  remaining = replicate n 0;
+  failed = replicate n false;
+  culprits = replicate n minus-one;
+}
+
+abbrev blank : NodeState
+blank = record { held = false; remaining = 0; failed = false; culprit = minus-one }
+
+module _ (n : ℕ) where
+  blank-at : (k : ℕ) → k < n → get (blanks n) k ≡ blank
+  blank-at k h = λ i. record {
+    held = getD-replicate n k false false h i;
+    remaining = getD-replicate n k 0 0 h i;
+    failed = getD-replicate n k false false h i;
+    culprit = getD-replicate n k minus-one (pos 0) h i;
+  }
+
+  blanks-inside : Inside (blanks n) n
+  blanks-inside = record {
+    held = omega (arith, length-replicate n false);
+    remaining = omega (arith, length-replicate {A = ℕ} n 0);
+    failed = omega (arith, length-replicate n false);
+    culprits = omega (arith, length-replicate n minus-one);
+  }
+
+  blanks-read : (m : Mon) (k : ℕ) → k + count m ≤ n → readMon m (blanks n) k ≡ fresh m
+  blanks-read m k h =
+      read-same m (blanks n) (cleared (blanks n) n) k (λ j a b. blank-at j (omega arith) ∙ sym (clear-entry (blanks n) n blanks-inside j (omega arith)))
+      ∙ fresh-reads (blanks n) n blanks-inside m k h
+
+  entry-shaped : (c : Check) → ShapedEntry c blank
+  entry-shaped (range-check p r) = refl
+  entry-shaped (delayed-check p q r) = refl
+  entry-shaped (obligation b p q r) = record { window = λ p f. true-false p refl; culprit = tt }
+
+  blanks-shaped : (m : Mon) (k : ℕ) → k + count m ≤ n → ShapedAt m (blanks n) k
+  unfolding ShapedAt count
+  blanks-shaped (check c) k h = subst (ShapedEntry c) (sym (blank-at k (omega arith))) (entry-shaped c)
+  blanks-shaped (And m o) k h = (
+    subst (λ (e : NodeState). FromMinusOne (e .culprit)) (sym (blank-at k (omega arith))) tt,
+    blanks-shaped m (k + 1) (omega arith),
+    blanks-shaped o (k + 1 + count m) (omega arith),
+  )
+  blanks-shaped (Or m o) k h = (
+    subst (λ (e : NodeState). FromMinusOne (e .culprit)) (sym (blank-at k (omega arith))) tt,
+    blanks-shaped m (k + 1) (omega arith),
+    blanks-shaped o (k + 1 + count m) (omega arith),
+  )
+
+pub fresh-held : (ops nums nodes nfirsts refusals : List ℕ) (R : ℕ → Rule) (n size : ℕ) → Rows ops nums nodes nfirsts refusals R n → 1024 ≤ size → Holding nfirsts R n (freshStates R) (blanks size)
+fresh-held ops nums nodes nfirsts refusals R n size u h = record {
+  inside = inside-less (blanks size) 1024 size h (blanks-inside size);
+  rule = λ r l c. record {
+    reads = blanks-read size (mon (R r)) (getD nfirsts r 0) (omega (arith, u .room r l c));
+    shaped = blanks-shaped size (mon (R r)) (getD nfirsts r 0) (omega (arith, u .room r l c));
+    kept = fresh-shaped (mon (R r));
+  };
+}
+
+-- ---- stepping from there
+module _ (text : List ℕ) (from : ℕ) (ops nums nodes nfirsts refusals : List ℕ) (n : ℕ) where
+  pub fresh-due : StepsDue text ops nums nodes nfirsts refusals n → LinesDue text ops nums nodes nfirsts refusals n (blanks 1280)
+  fresh-due d = record {
+    rules = d .rules;
+    states = freshStates (d .rules);
+    rows = d .rows;
+    holding = fresh-held ops nums nodes nfirsts refusals (d .rules) n 1280 (d .rows) (omega arith);
+    short = d .short;
+  }
+
+  pub fresh-reported : (a b : Tape) (written : ℕ) → LinesStepped text from ops nums nodes nfirsts refusals n (blanks 1280) a b written → StepsReported text from ops nums nodes nfirsts refusals n a b written
+  fresh-reported a b written l = record {
+    wrote = λ R u. l .wrote R (freshStates R) u (fresh-held ops nums nodes nfirsts refusals R n 1280 u (omega arith));
+    counted = λ R u. l .counted R (freshStates R) u (fresh-held ops nums nodes nfirsts refusals R n 1280 u (omega arith));
+  }
