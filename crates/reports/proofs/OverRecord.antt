@@ -4,7 +4,7 @@ use mathlib.Core.Bool.{Bool, true}
 use mathlib.Core.Logic.{_↔_}
 use mathlib.Core.Option.{some}
 use mathlib.Core.Path.{_≡_, ap, _∙_}
-use Prim.Native.Nat.{ℕ, zero, suc, _+_, _≤_, _<_}
+use Prim.Native.Nat.{ℕ, zero, suc, _≤_, _<_}
 use native.Mathlib.Omega.{arith}
 use Rattle.monitor.specs.Mon.{Mon}
 use Rattle.meaning.specs.Alarm.{Record, Alarm, First}

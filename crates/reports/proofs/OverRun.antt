@@ -1,11 +1,11 @@
 -- A run (crates/runs) of a fresh monitor from step 0 over its own table, with at most 2^63 words.
 --     run-tells   it is taken; it answers a step exactly where the alarm holds at it and at no earlier one, over the record of the words;
 --                 it is quiet exactly where no alarm holds; and every mark and culprit is right afterwards
-use mathlib.Core.Bool.{Bool, true}
+use mathlib.Core.Bool.{true}
 use mathlib.Core.List.{List, [], _∷_}
 use mathlib.Core.Logic.{_⊎_, inl, inr, _↔_}
 use mathlib.Core.Option.{some}
-use mathlib.Core.Path.{_≡_, refl, ap, ap₂, sym, subst, _∙_}
+use mathlib.Core.Path.{_≡_, refl, ap, sym, _∙_}
 use Prim.Native.Nat.{ℕ, zero, suc, _+_, _≤_, _<_}
 use native.Mathlib.Nat.{add-zero, zero-add}
 use native.Mathlib.Numerals.{add-one}
@@ -14,22 +14,21 @@ use lib.ListN.{length, getD}
 use Rattle.formula.proofs.Cases.{below-or}
 use Rattle.monitor.specs.Mon.{Mon}
 use Rattle.meaning.specs.Alarm.{Record, Alarm, First, NoneBelow}
-use Rattle.meaning.specs.State.{State, after}
+use Rattle.meaning.specs.State.{after}
 use Rattle.meaning.specs.Machine.{Keeps}
 use Rattle.meaning.proofs.Meaning.{each-node, each-obligation}
 use Rattle.meaning.proofs.Steps.{first-alarm}
-use Rattle.stepping.specs.declared.call.Verdict.{Verdict}
 use Rattle.stepping.specs.declared.call.Verdict.the-variants.{Accepted, Refused}
 use Rattle.stepping.specs.Memory.{Memory}
 use Rattle.stepping.specs.Walk.{readMon}
-use Rattle.stepping.specs.Call.{Tables, Monitor, Stepping, isLent, ruleMon, stepCall, with}
+use Rattle.stepping.specs.Call.{Tables, Monitor, isLent, ruleMon, stepCall, with}
 use Rattle.stepping.specs.Fresh.{freshOf}
 use Rattle.runs.specs.declared.RunVerdict.{RunVerdict}
 use Rattle.runs.specs.declared.RunVerdict.the-variants.{Quiet, Reported, Refused as NotRun}
-use Rattle.runs.specs.Run.{answersOf, memoryAfter, firstReport, Running, manySteps, runCall, Taken, ReportsAt}
-use Rattle.runs.proofs.Calls.{reports-inside, goes-taken, found}
+use Rattle.runs.specs.Run.{answersOf, memoryAfter, Running, manySteps, runCall, Taken, ReportsAt}
+use Rattle.runs.proofs.Calls.{reports-inside, goes-taken}
 use Rattle.runs.proofs.Runs.{fits-again, reported-iff}
-use Rattle.reports.specs.Calls.{machine, ReadsAs}
+use Rattle.reports.specs.Calls.{ReadsAs}
 use Rattle.reports.proofs.Demand.{code}
 use Rattle.reports.proofs.Starting.{fresh-ready}
 use Rattle.reports.proofs.OverRecord.{monitorAt, stands-at, over-endless-record}

@@ -7,12 +7,12 @@ use mathlib.Core.Option.{Option, none, some}
 use Prim.Native.Nat.{ℕ, zero, suc, _+_, _≤_, _<_}
 use native.Mathlib.Omega.{arith}
 use lib.Dec.{ltb}
-use lib.ListN.{length, getD}
+use lib.ListN.{length}
 use borrow.Author.Tests.{le-ltb, lt-ltb, ltb-true}
 use Rattle.formula.proofs.Cases.{below-or, true-false}
 use Rattle.formula.proofs.Walks.{both-true}
 use Rattle.monitor.specs.Mon.{Mon}
-use Rattle.meaning.specs.State.{State, Stepped, step, failed, newlyFailed}
+use Rattle.meaning.specs.State.{step, failed, newlyFailed}
 use Rattle.meaning.proofs.Meaning.{stays-marked, reports-once}
 use Rattle.stepping.specs.declared.call.Verdict.{Verdict}
 use Rattle.stepping.specs.declared.call.Verdict.the-variants.{Accepted, Refused}
@@ -22,9 +22,8 @@ use Rattle.stepping.specs.Call.{Tables, Monitor, Stepping, isLent, ruleMon, fit
 use Rattle.stepping.specs.Call as one
 use Rattle.stepping.proofs.Memories.{read-back}
 use Rattle.stepping.proofs.Staying.{Ready, inside-own, stays-ready}
-use Rattle.runs.specs.declared.RunVerdict.{RunVerdict}
-use Rattle.runs.specs.declared.RunVerdict.the-variants.{Quiet, Reported, Refused as NotRun}
-use Rattle.runs.specs.Run.{answersOf, memoryAfter, onReport, firstReport, Running, refuse, orRefuse, manySteps, inTime, runMon, runCall, Taken, Accepts, Each, Some, Lowest, ReportsAt}
+use Rattle.runs.specs.declared.RunVerdict.the-variants.{Reported, Refused as NotRun}
+use Rattle.runs.specs.Run.{answersOf, memoryAfter, firstReport, Running, refuse, orRefuse, manySteps, inTime, runMon, runCall, Taken, Accepts, Each, Some, Lowest, ReportsAt}
 use Rattle.runs.proofs.Running.{below-in-time}
 
 -- ---- lists of answers

@@ -6,8 +6,8 @@ use mathlib.Core.Option.{Option, none, some}
 use Prim.Native.Nat.{ℕ, zero, suc, _+_, _-_, _≤_, _<_}
 use native.Mathlib.Omega.{arith}
 use native.Mathlib.Numerals.{add-one}
-use lib.Dec.{eqb, leb, ltb}
-use lib.ListN.{length, getD, drop, length-drop}
+use lib.Dec.{leb, ltb}
+use lib.ListN.{length, getD, drop}
 use lib.Seq.{drop-cons, drop-length}
 use borrow.Author.Tests.{eq-eqb, ne-eqb, lt-ltb, le-ltb, ltb-true, lt-leb, le-leb}
 use Rattle.formula.specs.Table.{isSome}
@@ -18,12 +18,12 @@ use Rattle.stepping.specs.declared.call.Verdict.{Verdict}
 use Rattle.stepping.specs.declared.call.Verdict.the-variants.{Accepted, Refused}
 use Rattle.stepping.specs.Memory.{Memory}
 use Rattle.stepping.specs.Shape.{shapedFrom}
-use Rattle.stepping.specs.Call.{Tables, Monitor, Stepping, isLent, ruleMon, fits, accept, acceptMon, acceptOf, stepCall, with, Known, Fit}
+use Rattle.stepping.specs.Call.{Tables, Monitor, Stepping, isLent, ruleMon, fits, acceptMon, acceptOf, stepCall, Known, Fit}
 use Rattle.stepping.specs.Call as one
 use Rattle.stepping.proofs.Staying.{Ready, Stays, stays-ready}
 use Rattle.runs.specs.declared.RunVerdict.{RunVerdict}
 use Rattle.runs.specs.declared.RunVerdict.the-variants.{Quiet, Reported, Refused as NotRun}
-use Rattle.runs.specs.Run.{answersOf, memoryAfter, onReport, firstReport, Running, refuse, orRefuse, manySteps, inTime, runMon, runCall, Answers, RunFit, firstOf}
+use Rattle.runs.specs.Run.{answersOf, memoryAfter, onReport, firstReport, Running, orRefuse, manySteps, inTime, runMon, runCall, Answers, RunFit, firstOf}
 
 -- ---- the steps below 2^63
 pub below-in-time : (s : ℕ) (ws : List ℕ) → s + length ws ≤ 9223372036854775808 → inTime s ws ≡ true
