@@ -352,7 +352,7 @@ pub record Reads (ops nums : List ℕ) (first count′ : ℕ) (out : List ℕ) (
 nodes-inj : {a b : ℕ} → Nodes a ≡ Nodes b → a ≡ b
 nodes-inj e = cc
 
-not-nodes : {B : Type 0} (k n : ℕ) → NotCompiled k ≡ Nodes n → B
+pub not-nodes : {B : Type 0} (k n : ℕ) → NotCompiled k ≡ Nodes n → B
 not-nodes k n e = let z : _≡_ {A = ℕ} 0 1 = cc in absurd (omega arith)
 
 pub compiled-reads : (ops nums : List ℕ) (first count′ : ℕ) (out : List ℕ) (n : ℕ) → compileCall ops nums first count′ out .answer ≡ Nodes n → Reads ops nums first count′ (compileCall ops nums first count′ out .out) n

@@ -10,8 +10,7 @@ use Rattle.stepping.specs.declared.call.Verdict.the-variants as verdict
 use Rattle.stepping.specs.declared.call.Verdict.the-variants.{Accepted}
 use Rattle.stepping.specs.declared.fresh.Outcome.{Outcome}
 use Rattle.stepping.specs.declared.fresh.Outcome.the-variants.{Made, Refused}
-use Rattle.stepping.specs.Memory.{Memory}
-use Rattle.stepping.specs.Call.{Tables, Stepping, lentOf, isLent, ruleMon, refuse, accept, stepCall}
+use Rattle.stepping.specs.Call.{Tables, Stepping, isLent, ruleMon, stepCall}
 use Rattle.stepping.specs.Fresh.{Making, orShort, makeMon, making, freshOf}
 use Rattle.reports.proofs.Following.{Answered, no-step, steps, answered}
 use Rattle.in_place.specs.declared.Monitor.{Monitor}

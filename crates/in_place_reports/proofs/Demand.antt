@@ -1,15 +1,15 @@
--- Demand 3, for lists of step calls on a monitor struct that `fresh` made. No second theory: each call is the call on lists (`stepCall`) on what the struct holds,
--- so it follows the tree's state as that call does (`follows`, crates/reports), and the list is that list.
---     same-monitor, same-calls  any list of in-place calls leaves the struct, and is the calls, that the list of calls on lists gives
+-- Demand 3, for lists of step calls on a monitor struct that `fresh` made. Each is the call on lists (`stepCall`) on what the struct holds, so it follows the
+-- tree's state as that call does (`follows`, crates/reports), and the theorem about machines that do (`machine-tells`) is the same.
+--     same-monitor, same-calls  a list of in-place calls leaves what that list of calls on lists leaves, and its calls are the same
 --     demand-three              any list of in-place calls, refused ones anywhere and over any tables, the accepted ones over the rule's own table at 0, 1, 2 and on
---     demand-three-compiled     the same from the compiler's own answer on
+--     demand-three-compiled     the same from the compiler's own answer on, in any struct of arrays of 256
 --     demand-three-plain        a plain rule over any endless record
 --     over-endless-record       each own call below 2^63 is accepted, and reports exactly at the first alarm
 use mathlib.Core.Bool.{Bool, true}
 use mathlib.Core.List.{List, [], _∷_}
 use mathlib.Core.Logic.{_↔_}
 use mathlib.Core.Option.{some}
-use mathlib.Core.Path.{_≡_, refl, ap, sym, subst, _∙_}
+use mathlib.Core.Path.{_≡_, refl, ap, _∙_}
 use Prim.Native.Nat.{ℕ, zero, suc, _<_}
 use Rattle.formula.specs.Formula.{Formula}
 use Rattle.monitor.specs.Mon.{Mon}
@@ -37,9 +37,10 @@ use Rattle.reports.proofs.Demand.{starts, compiledTables, rule, own-table}
 use Rattle.reports.proofs.OverRecord.{monitorAt}
 use Rattle.reports.proofs.OverRecord as endless
 use Rattle.in_place.specs.declared.Monitor.{Monitor}
-use Rattle.in_place.specs.InPlace.{memoryOf, monitorOf, structOf, stepIn, freshIn}
+use Rattle.in_place.specs.InPlace.{memoryOf, monitorOf, stepIn, freshIn}
 use Rattle.in_place_reports.specs.Calls.{inPlace, OwnTable, ReadsAs}
-use Rattle.in_place_reports.proofs.Answers.{MadeOf, fresh-made}
+use Rattle.in_place_reports.proofs.Answers.{fresh-made}
+use Rattle.in_place_reports.proofs.Starting.{Whole, fresh-after-compiling}
 
 -- ---- a list of in-place calls is the list of calls on lists
 -- the calls on the lists that a struct holds
@@ -88,7 +89,7 @@ demand-three-plain {f} p i t k₀ n made own rec = record {
   calls = λ es g h o. over-record t k₀ n made (ruleNode f i) own rec es g h o;
 }
 
--- ---- from a compiled rule on: its own table is what compiling left
+-- ---- from a compiled rule on: its own table is what compiling left, and its fresh monitor is made in any struct
 module _ (ops nums : List ℕ) (first count′ : ℕ) (out : List ℕ) (n : ℕ) (compiles : compileCall ops nums first count′ out .answer ≡ Nodes n) where
   abbrev own : Tables
   own = compiledTables ops nums first count′ out n compiles
@@ -96,11 +97,14 @@ module _ (ops nums : List ℕ) (first count′ : ℕ) (out : List ℕ) (n : ℕ)
   abbrev mon : Mon
   mon = ruleNode (rule ops nums first count′ out n compiles) first
 
-  pub demand-three-compiled : (k₀ : Monitor) (j : ℕ) → freshIn own k₀ .outcome ≡ Made j → (es : List StepCall) → EachEvent inPlace (OwnTable mon) (freshIn own k₀ .monitor) es → InOrder 0 (callsOf inPlace (freshIn own k₀ .monitor) es) → Tells inPlace mon (ReadsAs mon) (recordOf (callsOf inPlace (freshIn own k₀ .monitor) es)) (freshIn own k₀ .monitor) es
-  demand-three-compiled k₀ j made es f h = demand-three own k₀ j made mon (own-table ops nums first count′ out n compiles) es f h
+  made : (k : Monitor) → Whole k → freshIn own k .outcome ≡ Made n
+  made = fresh-after-compiling ops nums first count′ out n compiles
 
-  pub demand-three-compiled-plain : Plain (rule ops nums first count′ out n compiles) → (k₀ : Monitor) (j : ℕ) → freshIn own k₀ .outcome ≡ Made j → (rec : Record) → PlainTells (rule ops nums first count′ out n compiles) first own k₀ rec
-  demand-three-compiled-plain p k₀ j made rec = demand-three-plain p first own k₀ j made (own-table ops nums first count′ out n compiles) rec
+  pub demand-three-compiled : (k₀ : Monitor) → Whole k₀ → (es : List StepCall) → EachEvent inPlace (OwnTable mon) (freshIn own k₀ .monitor) es → InOrder 0 (callsOf inPlace (freshIn own k₀ .monitor) es) → Tells inPlace mon (ReadsAs mon) (recordOf (callsOf inPlace (freshIn own k₀ .monitor) es)) (freshIn own k₀ .monitor) es
+  demand-three-compiled k₀ w es f h = demand-three own k₀ n (made k₀ w) mon (own-table ops nums first count′ out n compiles) es f h
+
+  pub demand-three-compiled-plain : Plain (rule ops nums first count′ out n compiles) → (k₀ : Monitor) → Whole k₀ → (rec : Record) → PlainTells (rule ops nums first count′ out n compiles) first own k₀ rec
+  demand-three-compiled-plain p k₀ w rec = demand-three-plain p first own k₀ n (made k₀ w) (own-table ops nums first count′ out n compiles) rec
 
 -- ---- an endless record, with no call taken to be accepted
 module _ (t : Tables) (k₀ : Monitor) (n : ℕ) (made : freshIn t k₀ .outcome ≡ Made n) (m : Mon) (own : ruleMon t ≡ some m) (rec : Record) where

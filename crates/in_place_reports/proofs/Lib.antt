@@ -1,3 +1,4 @@
 -- Demand 3 of the calls on a monitor struct.
 pub mod Answers
+pub mod Starting
 pub mod Demand
