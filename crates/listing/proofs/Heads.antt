@@ -1,0 +1,106 @@
+-- The lines of the rules.
+use mathlib.Core.Bool.{true}
+use mathlib.Core.List.{List, [], _∷_, _++_}
+use mathlib.Core.Path.{_≡_, refl, sym, ap, subst, _∙_}
+use Prim.Native.Nat.{ℕ, suc, _+_, _-_, _*_, _≤_, _<_}
+use native.Mathlib.Omega.{arith}
+use native.Mathlib.Numerals.{add-one}
+use lib.ListN.{length, getD, take, drop}
+use lib.ListN.{length-drop}
+use Rattle.text.specs.Tape.{Tape, Wrote}
+use Rattle.text.proofs.Tapes.{as-text, nothing, then}
+use Rattle.lines.specs.declared.rule.Compiling.{Compiling}
+use Rattle.rules.specs.Rules.{Rule, bitsOf, firstBitOf, likeOf, firstBelow, compilingOf}
+use Rattle.rules.specs.Tabled.{Held, Tabled, Placed}
+use Rattle.rules.specs.Made.{Fillable, Filled}
+use Rattle.rules.specs.Answers.{Placeable, Places, Tellable, Told}
+use Rattle.listing_text.specs.Listing.{upto, ruleText, rulesText}
+use Rattle.rule_lines.specs.Section as section
+use Rattle.listing.specs.Ready.{Lent, Labelled, Ready, Readied, RuleReady, RuleListed, RulesListed}
+use Rattle.listing.specs.Whole.{Read, Holds, Known, Roomed, HeadListed}
+
+module _ (ops nums labels lens kinds firsts counts nodes nfirsts ncounts refusals starts bits : List ℕ) where
+  abbrev lent : Lent
+  lent = record { ops = ops; nums = nums; labels = labels; lens = lens; kinds = kinds; firsts = firsts; counts = counts; nodes = nodes; nfirsts = nfirsts; ncounts = ncounts; refusals = refusals; starts = starts; bits = bits }
+
+  module _ (n r : ℕ) (c : Compiling) where
+    pub label-room : (rest : List ℕ) → RuleReady lent n r c → rest ≡ drop (32 * r) labels → getD lens r 0 ≤ length rest
+    label-room rest h e =
+        let k : Labelled labels lens (h .readied .rules) n = h .readied .is .labelled in
+        omega (arith, ap length e, length-drop (32 * r) labels, k .inside r (h .low), k .in-labels)
+
+    listable : (rest label : List ℕ) (R : ℕ → Rule) → Ready lent R n → r < n → c ≡ compilingOf R n r → rest ≡ drop (32 * r) labels → label ≡ take (getD lens r 0) rest → section.Listable ops nums nodes label (getD kinds r 0) (getD firsts r 0) (getD counts r 0) (getD nfirsts r 0) (getD ncounts r 0) c (R r)
+    unfolding compilingOf
+    listable rest label R k h g e p = record {
+      in-ops = omega (arith, k .held .ops-long);
+      in-nums = omega (arith, k .held .nums-long);
+      label-is = sym (p ∙ ap (take (getD lens r 0)) e ∙ k .labelled .label r h);
+      kind-is = k .held .kind r h;
+      first-is = k .held .first r h;
+      formula-is = k .held .formula r h;
+      compiled = k .tabled .compiled r h;
+      first-bit = firstBitOf R n r;
+      bits = bitsOf (R r);
+      alike = firstBelow (likeOf R r) r;
+      gave = g;
+    }
+
+    pub section-ready : (rest label : List ℕ) → RuleReady lent n r c → rest ≡ drop (32 * r) labels → label ≡ take (getD lens r 0) rest → section.Readied ops nums nodes label (getD kinds r 0) (getD firsts r 0) (getD counts r 0) (getD nfirsts r 0) (getD ncounts r 0) c
+    section-ready rest label h e p = record { rule = h .readied .rules r; is = listable rest label (h .readied .rules) (h .readied .is) (h .low) (h .gave) e p }
+
+    pub section-listed : (rest label : List ℕ) (a b : Tape) → RuleReady lent n r c → rest ≡ drop (32 * r) labels → label ≡ take (getD lens r 0) rest → section.RulePut ops nums nodes label r (getD kinds r 0) (getD firsts r 0) (getD counts r 0) (getD nfirsts r 0) (getD ncounts r 0) c a b → RuleListed lent n r c a b
+    unfolding ruleText
+    section-listed rest label a b h e p w = record {
+      is = λ R k g. subst (λ (x : Compiling). Wrote a (Rattle.lines.specs.Rule.ruleLine r (R r .label) (R r .kind) x ++ (Rattle.listing_text.specs.Listing.nodesText (R r) ++ (Rattle.listing_text.specs.Listing.liveText (R r) ++ Rattle.listing_text.specs.Listing.owesText (R r)))) b) g (w .is (R r) (listable rest label R k (h .low) g e p));
+    }
+
+  -- ---- the loop: the lines of r rules are written
+  pub record Headed (n r : ℕ) (a b : Tape) : Type 0 where
+    pub high : r ≤ n
+    pub wrote : (R : ℕ → Rule) → Ready lent R n → Wrote a (upto (ruleText R n) r) b
+
+  module _ (n : ℕ) where
+    pub headed-first : (a : Tape) → Headed n 0 a a
+    unfolding upto
+    headed-first a = record { high = omega arith; wrote = λ R k. nothing a }
+
+    pub told-ready : (r : ℕ) → Readied lent n → r < n → Tellable ops nums firsts counts nodes nfirsts ncounts refusals starts bits r
+    told-ready r k h = record { rules = k .rules; many = n; tabled = k .is .tabled; placed = k .is .placed; inside = h }
+
+    pub rule-asked : (r : ℕ) (c : Compiling) → Readied lent n → r < n → Told ops nums firsts counts nodes nfirsts ncounts refusals starts bits r c → RuleReady lent n r c
+    rule-asked r c k h t = record { readied = k; low = h; gave = t .is (k .rules) n (k .is .tabled) (k .is .placed) h }
+
+    pub headed-next : (r : ℕ) (c : Compiling) (a b d : Tape) → Headed n r a b → r < n → Told ops nums firsts counts nodes nfirsts ncounts refusals starts bits r c → RuleListed lent n r c b d → Headed n (r + 1) a d
+    unfolding upto
+    headed-next r c a b d s h t w = record {
+      high = omega arith;
+      wrote = λ R k. as-text a d (ap (upto (ruleText R n)) (add-one r)) (then (s .wrote R k) (w .is R k (t .is R n (k .tabled) (k .placed) h)));
+    }
+
+    pub headed-all : (r : ℕ) (a b : Tape) → Headed n r a b → n ≤ r → RulesListed lent n a b
+    unfolding rulesText
+    headed-all r a b s h = record {
+      is = λ R k. as-text a b (ap (upto (ruleText R n)) (let e : n ≡ r = omega (arith, s .high) in e)) (s .wrote R k);
+    }
+
+  -- ---- the rules are compiled and placed
+  abbrev tables : Read
+  tables = record { ops = ops; nums = nums; labels = labels; lens = lens; kinds = kinds; firsts = firsts; counts = counts }
+
+  module _ (n : ℕ) where
+    pub fillable : Known tables n → Roomed nodes nfirsts ncounts refusals → Fillable ops nums kinds firsts counts nodes nfirsts ncounts refusals n
+    fillable k m = record { rules = k .rules; held = k .is .held; in-nodes = m .in-nodes; in-nfirsts = m .in-nfirsts; in-ncounts = m .in-ncounts; in-refusals = m .in-refusals }
+
+    pub placeable : Known tables n → Filled ops nums kinds firsts counts nodes nfirsts ncounts refusals n → 64 ≤ length starts → 64 ≤ length bits → Placeable kinds nodes nfirsts ncounts refusals n starts bits
+    placeable k f s b = record { ops = ops; nums = nums; firsts = firsts; counts = counts; rules = k .rules; held = k .is .held; tabled = f .is (k .rules) (k .is .held); in-starts = s; in-bits = b }
+
+    ready : (R : ℕ → Rule) → Holds tables R n → Filled ops nums kinds firsts counts nodes nfirsts ncounts refusals n → Places kinds nodes nfirsts ncounts refusals n starts bits → Ready lent R n
+    ready R k f p =
+        let t : Tabled ops nums firsts counts nodes nfirsts ncounts refusals R n = f .is R (k .held) in
+        record { labelled = k .labelled; held = k .held; tabled = t; placed = p .is ops nums firsts counts R (k .held) t }
+
+    pub readied : Known tables n → Filled ops nums kinds firsts counts nodes nfirsts ncounts refusals n → Places kinds nodes nfirsts ncounts refusals n starts bits → Readied lent n
+    readied k f p = record { rules = k .rules; is = ready (k .rules) (k .is) f p }
+
+    pub head-listed : (a b : Tape) → Filled ops nums kinds firsts counts nodes nfirsts ncounts refusals n → Places kinds nodes nfirsts ncounts refusals n starts bits → RulesListed lent n a b → HeadListed tables n nodes nfirsts ncounts refusals a b
+    head-listed a b f p w = record { text = λ R k. w .is R (ready R k f p); tabled = λ R k. f .is R (k .held) }

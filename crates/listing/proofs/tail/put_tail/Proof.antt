@@ -1,0 +1,28 @@
+use Rattle.listing.proofs.Wholes.{steps-due, tail-listed}
+use borrow.Author.Needs.{needs}
+use borrow.Author.Needs.{needs}
+use Rattle.listing.proofs.tail.put_tail.Statement.{statement}
+use Rattle.listing.proofs.tail.put_tail.Tie as tie
+use Rattle.listing.proofs.tail.put_tail.Reads as reads
+use Rattle.listing.proofs.tail.put_tail.Lts as lts
+use Rattle.report_lines.proofs.put_end.Reads as put-end-reads
+use Rattle.stepped_lines.proofs.report_steps.Reads as report-steps-reads
+
+-- src/tail.rt:26:9
+report-steps-requires : tie.Need-report-steps-requires
+report-steps-requires c κs = search (needs, steps-due)
+
+-- src/tail.rt:29:5
+put-end-requires : tie.Need-put-end-requires
+put-end-requires c κs = search needs
+
+-- src/tail.rt:8:1
+same-length : tie.Need-same-length
+same-length c = search needs
+
+-- src/tail.rt:8:1
+returns : tie.Need-returns
+returns c = search (needs, tail-listed)
+
+pub put-tail-spec : {M : Type 1} → statement M
+put-tail-spec = tie.close (tie.spec report-steps-requires put-end-requires same-length returns)

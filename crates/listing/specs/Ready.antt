@@ -1,0 +1,57 @@
+-- The tables from which a book's rules are listed.
+use mathlib.Core.List.{List}
+use mathlib.Core.Path.{_≡_}
+use Prim.Native.Nat.{ℕ, _+_, _*_, _≤_, _<_}
+use lib.ListN.{length, getD, take, drop}
+use Rattle.text.specs.Tape.{Tape, Wrote}
+use Rattle.lines.specs.declared.rule.Compiling.{Compiling}
+use Rattle.rules.specs.Rules.{Rule, compilingOf}
+use Rattle.rules.specs.Tabled.{Held, Tabled, Placed}
+use Rattle.listing_text.specs.Listing.{upto, ruleText, rulesText}
+
+-- the lists that are lent
+pub record Lent : Type 0 where
+  pub ops : List ℕ
+  pub nums : List ℕ
+  pub labels : List ℕ
+  pub lens : List ℕ
+  pub kinds : List ℕ
+  pub firsts : List ℕ
+  pub counts : List ℕ
+  pub nodes : List ℕ
+  pub nfirsts : List ℕ
+  pub ncounts : List ℕ
+  pub refusals : List ℕ
+  pub starts : List ℕ
+  pub bits : List ℕ
+
+-- each label stands in front of its own 32 bytes
+pub record Labelled (labels lens : List ℕ) (R : ℕ → Rule) (n : ℕ) : Type 0 where
+  pub in-labels : 2048 ≤ length labels
+  pub in-lens : 64 ≤ length lens
+  pub inside : (r : ℕ) → r < n → 32 * r + getD lens r 0 ≤ 2048
+  pub label : (r : ℕ) → r < n → take (getD lens r 0) (drop (32 * r) labels) ≡ R r .label
+
+-- the first n rules of R: read, compiled and placed
+pub record Ready (l : Lent) (R : ℕ → Rule) (n : ℕ) : Type 0 where
+  pub labelled : Labelled (l .labels) (l .lens) R n
+  pub held : Held (l .ops) (l .nums) (l .kinds) (l .firsts) (l .counts) R n
+  pub tabled : Tabled (l .ops) (l .nums) (l .firsts) (l .counts) (l .nodes) (l .nfirsts) (l .ncounts) (l .refusals) R n
+  pub placed : Placed R n (l .starts) (l .bits)
+
+pub record Readied (l : Lent) (n : ℕ) : Type 0 where
+  pub rules : ℕ → Rule
+  pub is : Ready l rules n
+
+-- rule r, with what compiling gave
+pub record RuleReady (l : Lent) (n r : ℕ) (c : Compiling) : Type 0 where
+  pub readied : Readied l n
+  pub low : r < n
+  pub gave : c ≡ compilingOf (readied .rules) n r
+
+pub record RuleListed (l : Lent) (n r : ℕ) (c : Compiling) (before after : Tape) : Type 0 where
+  pub is : (R : ℕ → Rule) → Ready l R n → c ≡ compilingOf R n r → Wrote before (ruleText R n r) after
+
+-- all rules
+pub record RulesListed (l : Lent) (n : ℕ) (before after : Tape) : Type 0 where
+  pub is : (R : ℕ → Rule) → Ready l R n → Wrote before (rulesText R n) after

@@ -1,0 +1,129 @@
+// Listing a whole book: it is read, its rules are listed, its steps stepped.
+use crate::head::put_head;
+use crate::tail::put_tail;
+use reader::read::Answer;
+use reader::read::read_book;
+use report_lines::put_refused;
+ghost use Rattle.text.specs.Tape.{tape, Wrote};
+ghost use Rattle.listing_text.specs.Listing.{listing};
+ghost use Rattle.reader.specs.Tables.{Tables};
+ghost use Rattle.listing_size.specs.Handed.{Handed};
+ghost use Rattle.listing.specs.Lists.{Answers, Within, listCall};
+
+// How long the listing is, or the refusal.
+pub enum Listed {
+    Text(usize),
+    Refused(u64),
+}
+
+// An accepted book of n rules, whose steps begin at a place of the text.
+fn list_accepted(
+    text: &[u8],
+    from: usize,
+    ops: &[u8],
+    nums: &[u64],
+    labels: &[u8],
+    lens: &[usize],
+    kinds: &[u8],
+    firsts: &[usize],
+    counts: &[usize],
+    n: usize,
+    out: &mut [u8],
+) -> usize
+    requires { ⌜ Handed (now text) (record { labels = now labels; lens = now lens; kinds = now kinds; firsts = now firsts; counts = now counts; ops = now ops; nums = now nums }) n from ⌝ }
+    ensures { λ e. ⌜ Wrote (tape (now (out .entry)) 0) (listing (now (text .entry))) (tape (now (out .exit)) e) ⌝ }
+{
+    let mut nodes: [u64; 8960] = [0; 8960];
+    let mut nfirsts: [usize; 64] = [0; 64];
+    let mut ncounts: [usize; 64] = [0; 64];
+    let mut refusals: [u64; 64] = [0; 64];
+    let place = put_head(
+        out,
+        ops,
+        nums,
+        labels,
+        lens,
+        kinds,
+        firsts,
+        counts,
+        n,
+        &mut nodes,
+        &mut nfirsts,
+        &mut ncounts,
+        &mut refusals,
+    );
+    put_tail(
+        text,
+        from,
+        ops,
+        nums,
+        firsts,
+        counts,
+        &nodes,
+        &nfirsts,
+        &ncounts,
+        &refusals,
+        n,
+        out,
+        place,
+    )
+}
+
+// A book's listing, or its refusal.
+fn list_text(text: &[u8], out: &mut [u8]) -> usize
+    ensures { λ r. ⌜ Wrote (tape (now (out .entry)) 0) (listing (now (text .entry))) (tape (now (out .exit)) r) ⌝ }
+{
+    let mut labels: [u8; 2048] = [0; 2048];
+    let mut lens: [usize; 64] = [0; 64];
+    let mut kinds: [u8; 64] = [0; 64];
+    let mut firsts: [usize; 64] = [0; 64];
+    let mut counts: [usize; 64] = [0; 64];
+    let mut ops: [u8; 1024] = [0; 1024];
+    let mut nums: [u64; 1024] = [0; 1024];
+    let answer = read_book(
+        text,
+        &mut labels,
+        &mut lens,
+        &mut kinds,
+        &mut firsts,
+        &mut counts,
+        &mut ops,
+        &mut nums,
+    );
+    match answer {
+        Answer::Refused { number, line } => {
+            return put_refused(out, 0, number as u64, line as u64);
+        }
+        Answer::Read {
+            rules,
+            nodes: _,
+            steps_at,
+        } => {
+            return list_accepted(
+                text,
+                steps_at,
+                &ops,
+                &nums,
+                &labels,
+                &lens,
+                &kinds,
+                &firsts,
+                &counts,
+                rules,
+                out,
+            );
+        }
+    }
+}
+
+// The entry point: the listing of a book into a lent output of at least 262,144 bytes.
+pub fn list_book(text: &[u8], out: &mut [u8]) -> Listed
+    ensures { λ r. ⌜ Answers (listCall (now (text .entry)) (now (out .entry))) r (now (out .exit)) ⌝ }
+    ensures { λ r. ⌜ Within r (now (out .exit)) ⌝ }
+{
+    if out.len() < 262144 {
+        return Listed::Refused(1);
+    }
+    let n = list_text(text, out);
+    Listed::Text(n)
+}
