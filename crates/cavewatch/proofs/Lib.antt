@@ -1,0 +1,2 @@
+-- The listing's length.
+pub mod Lengths
