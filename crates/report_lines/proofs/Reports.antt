@@ -1,5 +1,5 @@
 -- The `report`, `end` and `refused` lines, from what the code writes one behind the other.
-use mathlib.Core.Path.{_≡_, refl, sym, ap, ap₂, subst, _∙_}
+use mathlib.Core.Path.{ap, ap₂, subst, _∙_}
 use mathlib.Core.List.{List, [], _∷_, _++_}
 use Prim.Native.Nat.{ℕ}
 use mir.Syntax.{w64}
@@ -11,7 +11,7 @@ use Rattle.text.specs.Tape.{Tape, Wrote, signed}
 use Rattle.text.proofs.Tapes.{as-text, then}
 use Rattle.lines.specs.Line.{line, tabbed, marked}
 use Rattle.lines.proofs.Fields.{more, done, tab-more, tab-done, group}
-use Rattle.listing_text.specs.Listing.{Report, reportWord, reportLine, endLine, refusedLine}
+use Rattle.listing_text.specs.Listing.{reportWord, reportLine, endLine, refusedLine}
 use Rattle.report_lines.specs.Written.{ReportWrote}
 
 abbrev headOf : ℕ → ℕ → List (List ℕ)

@@ -3,20 +3,20 @@ use mathlib.Core.Path.{_≡_, refl, sym, ap, subst, _∙_}
 use mathlib.Core.Bool.{Bool, true, false, _&&_}
 use mathlib.Core.Bool as bool
 use mathlib.Core.List.{List}
-use Prim.Native.Nat.{ℕ, zero, suc, _+_, _≤_, _<_}
+use Prim.Native.Nat.{ℕ, zero, suc, _+_}
 use native.Mathlib.Omega.{arith}
 use lib.IntN.{ℤ, pos, negsuc}
 use lib.ListN.{getD}
 use Rattle.monitor.specs.Mon.{Check, range-check, delayed-check, obligation, Mon, check, And, Or, count}
 use Rattle.meaning.specs.Culprit.{minus-one}
-use Rattle.meaning.specs.State.{State, CheckState, FromMinusOne, CheckShaped, WellShaped, Stepped, step, newlyFailed, failed, culprit}
+use Rattle.meaning.specs.State.{State, CheckState, FromMinusOne, CheckShaped, WellShaped, step, newlyFailed, failed, culprit}
 use Rattle.meaning.proofs.Meaning.{step-shaped}
 use Rattle.stepping.specs.declared.state.NodeState.{NodeState}
 use Rattle.stepping.specs.declared.walk.NodeOut.{NodeOut}
 use Rattle.stepping.specs.Memory.{Memory, get, put, Inside}
 use Rattle.stepping.specs.Check.{writeCheck}
-use Rattle.stepping.specs.Walk.{NodesAt, ShapedEntry, ShapedAt, readMon, writeMon, joinedEntry, Walkable, NodeStepped}
-use Rattle.stepping.proofs.Memories.{get-put-same, get-put-other, inside-less, inside-write, write-before, write-past, SameFrom, read-same, shaped-same, read-back, culprit-read, failed-read, count-pos}
+use Rattle.stepping.specs.Walk.{NodesAt, ShapedEntry, ShapedAt, readMon, writeMon, joinedEntry, NodeStepped}
+use Rattle.stepping.proofs.Memories.{get-put-same, get-put-other, inside-less, inside-write, write-before, write-past, SameFrom, read-same, shaped-same, read-back, culprit-read, failed-read}
 use Rattle.text.specs.Tape.{Culprit, nobody, step as at-step}
 use Rattle.stepped_lines.specs.Holding.{Holds}
 use Rattle.stepped_lines.specs.Stepped.{RuleStepped}

@@ -1,20 +1,19 @@
 -- All rules at a step line: the loop over them, and what it keeps.
 use mathlib.Core.Path.{_≡_, refl, sym, ap, ap₂, subst, _∙_}
-use mathlib.Core.Bool.{Bool, true}
+use mathlib.Core.Bool.{Bool}
 use mathlib.Core.List.{List, [], _∷_, _++_, append-assoc}
-use Prim.Native.Nat.{ℕ, zero, suc, _+_, _≤_, _<_}
+use Prim.Native.Nat.{ℕ, _+_, _≤_, _<_}
 use native.Mathlib.Omega.{arith}
 use native.Mathlib.Numerals.{add-one}
 use lib.IntN.{ℤ}
 use lib.ListN.{length, getD, length-append}
-use Rattle.monitor.specs.Mon.{Mon}
 use Rattle.meaning.specs.State.{State}
 use Rattle.stepping.specs.Memory.{Memory}
 use Rattle.text.specs.Tape.{Tape, Wrote}
 use Rattle.text.proofs.Tapes.{as-text, then, nothing}
-use Rattle.rules.specs.Rules.{Rule, compiles, mon}
+use Rattle.rules.specs.Rules.{Rule, mon}
 use Rattle.book.specs.Book.{StepLine}
-use Rattle.listing_text.specs.Listing.{States, nextStates, Report, reportsAt, reportLine, reportLines}
+use Rattle.listing_text.specs.Listing.{States, Report, reportsAt, reportLine, reportLines}
 use Rattle.stepped_lines.specs.Holding.{Rows, Holds, Holding}
 use Rattle.stepped_lines.specs.Stepped.{lineOf, stepped, reportIf, Due, OneStepped, LineDue, LineStepped}
 use Rattle.stepped_lines.proofs.Turns.{step-below, step-from}

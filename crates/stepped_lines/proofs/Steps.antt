@@ -1,8 +1,8 @@
 -- The steps that stand in a text: each number is below 2^63, and there are no more of them than bytes.
-use mathlib.Core.Path.{_≡_, refl, sym, ap, subst, _∙_}
+use mathlib.Core.Path.{_≡_, refl, ap, subst, _∙_}
 use mathlib.Core.Bool.{Bool, true, false}
 use mathlib.Core.List.{List, [], _∷_}
-use Prim.Native.Nat.{ℕ, zero, suc, _+_, _^_, _≤_, _<_}
+use Prim.Native.Nat.{ℕ, suc, _^_, _≤_, _<_}
 use native.Mathlib.Omega.{arith}
 use lib.Dec.{eqb, ltb}
 use lib.ListN.{length, getD, drop, length-drop}

@@ -1,15 +1,15 @@
 -- Where stepping starts: the rows of a book's compiled rules, and a cleared memory that holds the fresh states.
-use mathlib.Core.Path.{_≡_, refl, sym, ap, subst, _∙_}
-use mathlib.Core.Bool.{Bool, true, false}
+use mathlib.Core.Path.{_≡_, refl, sym, subst, _∙_}
+use mathlib.Core.Bool.{true, false}
 use mathlib.Core.List.{List}
-use Prim.Native.Nat.{ℕ, _+_, _*_, _≤_, _<_}
+use Prim.Native.Nat.{ℕ, _+_, _≤_, _<_}
 use native.Mathlib.Omega.{arith}
-use lib.IntN.{ℤ, pos}
-use lib.ListN.{length, getD, replicate, length-replicate, getD-replicate}
+use lib.IntN.{pos}
+use lib.ListN.{getD, replicate, length-replicate, getD-replicate}
 use Rattle.formula.proofs.Cases.{true-false}
 use Rattle.monitor.specs.Mon.{Check, range-check, delayed-check, obligation, Mon, check, And, Or, count}
 use Rattle.meaning.specs.Culprit.{minus-one}
-use Rattle.meaning.specs.State.{State, FromMinusOne, fresh}
+use Rattle.meaning.specs.State.{FromMinusOne, fresh}
 use Rattle.meaning.proofs.Meaning.{fresh-shaped}
 use Rattle.stepping.specs.declared.state.NodeState.{NodeState}
 use Rattle.stepping.specs.Memory.{Memory, get, Inside}
@@ -22,7 +22,7 @@ use Rattle.text.specs.Tape.{Tape}
 use Rattle.rules.specs.Rules.{Rule, compiles, mon}
 use Rattle.rules.specs.Tabled.{Tabled}
 use Rattle.listing_text.specs.Listing.{freshStates}
-use Rattle.stepped_lines.specs.Holding.{Rows, Holds, Holding}
+use Rattle.stepped_lines.specs.Holding.{Rows, Holding}
 use Rattle.stepped_lines.specs.Stepped.{LinesDue, LinesStepped, StepsDue, StepsReported}
 
 -- ---- the rows

@@ -1,29 +1,28 @@
 -- One rule's turn at a step line: what it keeps, and what is written of it.
-use mathlib.Core.Path.{_≡_, refl, sym, ap, ap₂, subst, _∙_}
+use mathlib.Core.Path.{_≡_, refl, sym, ap, subst, _∙_}
 use mathlib.Core.Bool.{Bool, true, false, _&&_}
-use mathlib.Core.List.{List, [], _∷_, _++_}
+use mathlib.Core.List.{List, [], _∷_}
 use mathlib.Core.Logic.{⊎-elim}
-use Prim.Native.Nat.{ℕ, zero, suc, _+_, _*_, _≤_, _<_}
+use Prim.Native.Nat.{ℕ, _+_, _≤_, _<_}
 use native.Mathlib.Omega.{arith}
 use mir.Syntax.{w64}
 use mir.Val.{SFits, toZ, ofZ}
 use mir.Facts.{toZ-ofZ}
-use lib.Dec.{ltb}
 use lib.IntN.{ℤ, pos}
 use lib.ListN.{length, getD}
 use borrow.Author.Tests.{lt-ltb, le-ltb}
 use Rattle.number.specs.Number.{pick}
 use Rattle.formula.proofs.Cases.{below-or}
 use Rattle.monitor.specs.Mon.{Mon, count}
-use Rattle.meaning.specs.State.{State, Stepped, step, newlyFailed, culprit}
+use Rattle.meaning.specs.State.{State, step, newlyFailed, culprit}
 use Rattle.stepping.specs.Memory.{Memory, get, Inside}
-use Rattle.stepping.specs.Walk.{NodesAt, ShapedAt, readMon, writeMon, Walkable}
+use Rattle.stepping.specs.Walk.{NodesAt, readMon, writeMon, Walkable}
 use Rattle.stepping.proofs.Memories.{inside-less, inside-write, write-before, write-past, SameFrom, count-pos}
 use Rattle.book.specs.Book.{StepLine}
 use Rattle.text.specs.Tape.{Tape, Wrote, Culprit}
 use Rattle.text.proofs.Tapes.{as-text, append-nil, nothing}
-use Rattle.rules.specs.Rules.{Rule, compiles, refusal, mon}
-use Rattle.listing_text.specs.Listing.{States, nextStates, Report, breaks, reportOf, reportLine, reportLines}
+use Rattle.rules.specs.Rules.{Rule, compiles, mon}
+use Rattle.listing_text.specs.Listing.{States, nextStates, breaks, reportOf, reportLine, reportLines}
 use Rattle.report_lines.specs.Written.{ReportWrote}
 use Rattle.stepped_lines.specs.Holding.{Rows, Holds, Holding}
 use Rattle.stepped_lines.specs.Stepped.{lineOf, stepped, reportIf, RuleStepped, Due, OneStepped}

@@ -1,5 +1,5 @@
 -- What stepping asks and leaves: of one rule, of one step line, of all step lines.
-use mathlib.Core.Bool.{Bool, true}
+use mathlib.Core.Bool.{Bool}
 use mathlib.Core.List.{List, [], _∷_}
 use mathlib.Core.Path.{_≡_}
 use Prim.Native.Nat.{ℕ, _+_, _≤_, _<_}
@@ -7,7 +7,7 @@ use lib.Dec.{ltb}
 use lib.ListN.{length}
 use Rattle.number.specs.Number.{pick}
 use Rattle.monitor.specs.Mon.{Mon, count}
-use Rattle.meaning.specs.State.{State, Stepped, step, newlyFailed}
+use Rattle.meaning.specs.State.{step, newlyFailed}
 use Rattle.stepping.specs.Memory.{Memory, Inside}
 use Rattle.stepping.specs.Walk.{NodesAt, ShapedAt, readMon, writeMon}
 use Rattle.book.specs.Book.{StepLine}

@@ -3,7 +3,6 @@ use reader::steps::StepRead;
 use reader::steps::next_step;
 use report_lines::put_report;
 use stepping::walk::step_node;
-ghost use Rattle.stepping.specs.Memory.{Memory};
 ghost use Rattle.stepping.specs.Walk.{Walkable};
 ghost use Rattle.text.specs.Tape.{tape};
 ghost use Rattle.stepped_lines.specs.Stepped.{RuleStepped, Due, OneStepped, LineDue, LineStepped, LinesDue, LinesStepped, StepsDue, StepsReported};

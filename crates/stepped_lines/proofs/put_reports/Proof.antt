@@ -1,7 +1,6 @@
 use native.Mathlib.Omega.{arith}
 use borrow.Author.Needs.{needs}
 use lib.ListN.{length}
-use Rattle.stepping.specs.Memory.{Memory}
 use Rattle.reader.specs.Steps.{stepsFrom}
 use Rattle.text.specs.Tape.{tape}
 use Rattle.stepped_lines.proofs.Lines.{Long}

@@ -1,7 +1,6 @@
 use Prim.Native.Nat.{_-_}
 use native.Mathlib.Omega.{arith}
 use borrow.Author.Needs.{needs}
-use Rattle.stepping.specs.Memory.{Memory}
 use Rattle.text.specs.Tape.{tape}
 use Rattle.stepped_lines.proofs.Lines.{Long, Upto, upto-first, upto-due, upto-next, upto-all}
 use Rattle.stepped_lines.proofs.step_rules.Statement.{statement}
