@@ -1,2 +1,3 @@
 -- The laws of writing reports.
 pub mod Reports
+pub mod Rows

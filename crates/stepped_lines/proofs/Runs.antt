@@ -1,5 +1,5 @@
 -- All step lines: the loop over them, and what it keeps.
-use mathlib.Core.Path.{_≡_, refl, sym, ap, ap₂, _∙_}
+use mathlib.Core.Path.{_≡_, refl, sym, ap, ap₂, subst, _∙_}
 use mathlib.Core.List.{List, [], _∷_, _++_, append-assoc}
 use Prim.Native.Nat.{ℕ, _+_, _*_, _≤_}
 use native.Mathlib.Omega.{arith}
@@ -14,7 +14,7 @@ use Rattle.reader.specs.declared.steps.StepRead.{StepRead}
 use Rattle.reader.specs.declared.steps.StepRead.the-variants.{Step, End}
 use Rattle.listing_text.specs.Listing.{States, nextStates, Report, reportsAt, reports, reportLines}
 use Rattle.stepped_lines.specs.Holding.{Rows, Holding}
-use Rattle.stepped_lines.specs.Stepped.{lineOf, LineDue, LineStepped, LinesDue, LinesStepped}
+use Rattle.stepped_lines.specs.Stepped.{lineOf, LineDue, LineStepped, lastStates, LinesDue, LinesStepped}
 use Rattle.stepped_lines.proofs.Lines.{lines-append}
 use Rattle.stepped_lines.proofs.Steps.{from-few, none-left, one-more, step-low, fewer}
 
@@ -24,6 +24,7 @@ pub record Part (text : List ℕ) (from : ℕ) (nfirsts : List ℕ) (R : ℕ →
   pub past : List Report
   pub holding : Holding nfirsts R n states mem
   pub all : reports R n st (stepsFrom text from) ≡ past ++ reports R n states (stepsFrom text cursor)
+  pub last : lastStates R st (stepsFrom text from) ≡ lastStates R states (stepsFrom text cursor)
   pub wrote : Wrote before (reportLines past) after
   pub counted : written ≡ length past
 
@@ -37,13 +38,16 @@ module _ (text : List ℕ) (from : ℕ) (ops nums nodes nfirsts refusals : List 
   unfolding reportLines
   ran-first d = record {
     few = omega (arith, d .short, from-few text from);
-    part = λ R st u v. record { states = st; past = []; holding = v; all = refl; wrote = nothing a; counted = refl };
+    part = λ R st u v. record { states = st; past = []; holding = v; all = refl; last = refl; wrote = nothing a; counted = refl };
   }
 
   module _ (cursor : ℕ) (mem′ : Memory) (b : Tape) (written : ℕ) (g : Ran text from ops nums nodes nfirsts refusals n mem a cursor mem′ b written) (read : StepRead) (h : Hands text cursor read) where
-    pub ran-end : read ≡ End → LinesStepped text from ops nums nodes nfirsts refusals n mem a b written
-    unfolding reports
+    pub ran-end : read ≡ End → LinesStepped text from ops nums nodes nfirsts refusals n mem a mem′ b written
+    unfolding reports lastStates
     ran-end e = record {
+      holding = λ R st u v.
+          let p = g .part R st u v in
+          subst (λ (z : States R). Holding nfirsts R n z mem′) (sym (p .last ∙ ap (lastStates R (p .states)) (none-left text cursor read h e))) (p .holding);
       wrote = λ R st u v. as-text a b (ap reportLines (none-after R st u v)) (g .part R st u v .wrote);
       counted = λ R st u v. g .part R st u v .counted ∙ ap length (sym (none-after R st u v));
     }
@@ -68,7 +72,7 @@ module _ (text : List ℕ) (from : ℕ) (ops nums nodes nfirsts refusals : List 
       }
 
       pub ran-next : (mem″ : Memory) (c : Tape) (more : ℕ) → LineStepped ops nums nodes nfirsts refusals n mem′ s w b mem″ c more → Ran text from ops nums nodes nfirsts refusals n mem a next mem″ c (written + more)
-      unfolding reports
+      unfolding reports lastStates
       ran-next mem″ c more l = record {
         few = omega (arith, g .few, l .few, fewer text cursor read h s w next e);
         part = λ R st u v.
@@ -82,6 +86,7 @@ module _ (text : List ℕ) (from : ℕ) (ops nums nodes nfirsts refusals : List 
               all = p .all
                   ∙ ap (λ (xs : List StepLine). p .past ++ reports R n (p .states) xs) (one-more text cursor read h s w next e)
                   ∙ sym (append-assoc (p .past) now (reports R n (nextStates R (p .states) x) (stepsFrom text next)));
+              last = p .last ∙ ap (lastStates R (p .states)) (one-more text cursor read h s w next e);
               wrote = as-text a c (lines-append (p .past) now) (then (p .wrote) (l .wrote R (p .states) u (p .holding)));
               counted = ap₂ _+_ (p .counted) (l .counted R (p .states) u (p .holding)) ∙ sym (length-append (p .past) now);
             };

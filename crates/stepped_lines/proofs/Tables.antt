@@ -116,8 +116,8 @@ module _ (text : List ℕ) (from : ℕ) (ops nums nodes nfirsts refusals : List 
     short = d .short;
   }
 
-  pub fresh-reported : (a b : Tape) (written : ℕ) → LinesStepped text from ops nums nodes nfirsts refusals n (blanks 1280) a b written → StepsReported text from ops nums nodes nfirsts refusals n a b written
-  fresh-reported a b written l = record {
+  pub fresh-reported : (a b : Tape) (mem : Memory) (written : ℕ) → LinesStepped text from ops nums nodes nfirsts refusals n (blanks 1280) a mem b written → StepsReported text from ops nums nodes nfirsts refusals n a b written
+  fresh-reported a b mem written l = record {
     wrote = λ R u. l .wrote R (freshStates R) u (fresh-held ops nums nodes nfirsts refusals R n 1280 u (omega arith));
     counted = λ R u. l .counted R (freshStates R) u (fresh-held ops nums nodes nfirsts refusals R n 1280 u (omega arith));
   }

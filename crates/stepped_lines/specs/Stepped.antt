@@ -62,6 +62,11 @@ pub record LineStepped (ops nums nodes nfirsts refusals : List ℕ) (n : ℕ) (m
   pub counted : (R : ℕ → Rule) (st : States R) → Rows ops nums nodes nfirsts refusals R n → Holding nfirsts R n st mem → written ≡ length (reportsAt R st (lineOf s w) n)
 
 -- ---- all step lines of a text from a place on; a book has at most 65,535 bytes
+-- the states after some step lines
+unfoldable pub lastStates : (R : ℕ → Rule) → States R → List StepLine → States R
+lastStates R st [] = st
+lastStates R st (x ∷ xs) = lastStates R (nextStates R st x) xs
+
 pub record LinesDue (text ops nums nodes nfirsts refusals : List ℕ) (n : ℕ) (mem : Memory) : Type 0 where
   pub rules : ℕ → Rule
   pub states : States rules
@@ -69,7 +74,8 @@ pub record LinesDue (text ops nums nodes nfirsts refusals : List ℕ) (n : ℕ) 
   pub holding : Holding nfirsts rules n states mem
   pub short : length text ≤ 65535
 
-pub record LinesStepped (text : List ℕ) (from : ℕ) (ops nums nodes nfirsts refusals : List ℕ) (n : ℕ) (mem : Memory) (before after : Tape) (written : ℕ) : Type 0 where
+pub record LinesStepped (text : List ℕ) (from : ℕ) (ops nums nodes nfirsts refusals : List ℕ) (n : ℕ) (mem : Memory) (before : Tape) (mem′ : Memory) (after : Tape) (written : ℕ) : Type 0 where
+  pub holding : (R : ℕ → Rule) (st : States R) → Rows ops nums nodes nfirsts refusals R n → Holding nfirsts R n st mem → Holding nfirsts R n (lastStates R st (stepsFrom text from)) mem′
   pub wrote : (R : ℕ → Rule) (st : States R) → Rows ops nums nodes nfirsts refusals R n → Holding nfirsts R n st mem → Wrote before (reportLines (reports R n st (stepsFrom text from))) after
   pub counted : (R : ℕ → Rule) (st : States R) → Rows ops nums nodes nfirsts refusals R n → Holding nfirsts R n st mem → written ≡ length (reports R n st (stepsFrom text from))
 

@@ -152,7 +152,7 @@ pub fn put_reports(
     at: usize,
 ) -> Reported
     requires { ⌜ LinesDue (now text) (now ops) (now nums) (now nodes) (now nfirsts) (now refusals) n (record { held = now held; remaining = now remaining; failed = now failed; culprits = now culprits }) ⌝ }
-    ensures { λ p. ⌜ LinesStepped (now (text .entry)) from (now (ops .entry)) (now (nums .entry)) (now (nodes .entry)) (now (nfirsts .entry)) (now (refusals .entry)) n (record { held = now (held .entry); remaining = now (remaining .entry); failed = now (failed .entry); culprits = now (culprits .entry) }) (tape (now (out .entry)) at) (tape (now (out .exit)) (p .at)) (p .count) ⌝ }
+    ensures { λ p. ⌜ LinesStepped (now (text .entry)) from (now (ops .entry)) (now (nums .entry)) (now (nodes .entry)) (now (nfirsts .entry)) (now (refusals .entry)) n (record { held = now (held .entry); remaining = now (remaining .entry); failed = now (failed .entry); culprits = now (culprits .entry) }) (tape (now (out .entry)) at) (record { held = now (held .exit); remaining = now (remaining .exit); failed = now (failed .exit); culprits = now (culprits .exit) }) (tape (now (out .exit)) (p .at)) (p .count) ⌝ }
 {
     let mut place = at;
     let mut total: u64 = 0;
