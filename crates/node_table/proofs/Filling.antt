@@ -1,0 +1,51 @@
+-- How many of a table's nodes are looked at, and what one more node adds to a column.
+use mathlib.Core.Bool.{Bool, true, false}
+use mathlib.Core.List.{List, [], _∷_, _++_, map, map-append}
+use mathlib.Core.Path.{_≡_, refl, sym, _∙_, ap, subst}
+use Prim.Native.Nat.{ℕ, suc, _+_, _≤_, _<_}
+use native.Mathlib.Numerals.{add-one}
+use native.Mathlib.Omega.{arith}
+use borrow.Author.Tests.{lt-ltb, le-ltb, ltb-true, ltb-false}
+use lib.Dec.{ltb}
+use lib.ListN.{length, getD, set, take}
+use lib.Seq.{take-all, take-length, take-suc, take-suc-set, length-take-le}
+use Rattle.node_table.specs.Columns.{within, lesser}
+
+pub within-few : (n : ℕ) → n < 1024 → n ≡ within n
+within-few n h = rw (lt-ltb n 1024 h)
+
+pub within-many : (n : ℕ) → 1024 ≤ n → 1024 ≡ within n
+within-many n h = rw (le-ltb n 1024 h)
+
+cases : (n : ℕ) (t : Bool) → ltb n 1024 ≡ t → (lesser t n ≤ 1024) × (lesser t n ≤ n)
+cases n true e = (omega (arith, ltb-true n 1024 e), omega arith)
+cases n false e = (omega arith, omega (arith, ltb-false n 1024 e))
+
+pub within-all : (n : ℕ) → within n ≤ 1024
+within-all n = cases n (ltb n 1024) refl .0
+
+pub within-lent : (n : ℕ) → within n ≤ n
+within-lent n = cases n (ltb n 1024) refl .1
+
+module _ {A : Type 0} (l : List A) where
+  takes : (t : Bool) → ltb (length l) 1024 ≡ t → take (lesser t (length l)) l ≡ take 1024 l
+  takes true e = take-length l ∙ sym (take-all 1024 l (omega (arith, ltb-true (length l) 1024 e)))
+  takes false e = refl
+
+  -- the nodes that are looked at are the first 1,024
+  pub within-takes : take (within (length l)) l ≡ take 1024 l
+  within-takes = takes (ltb (length l) 1024) refl
+
+  pub within-counts : within (length l) ≡ length (take 1024 l)
+  within-counts = sym (length-take-le (within (length l)) l (within-lent (length l))) ∙ ap length within-takes
+
+-- a column that holds the first i entries of ys and is given the next holds the first i + 1
+pub grows : {A : Type 0} (f : A → ℕ) (ys : List A) (d : A) (xs : List ℕ) (i : ℕ) → i < length ys → i < length xs → take i xs ≡ map f (take i ys)
+    → take (i + 1) (set xs i (f (getD ys i d))) ≡ map f (take (i + 1) ys)
+grows f ys d xs i ly lx e =
+    ap (λ (k : ℕ). take k (set xs i (f (getD ys i d)))) (add-one i)
+    ∙ take-suc-set xs i (f (getD ys i d)) lx
+    ∙ ap (λ (r : List ℕ). r ++ (f (getD ys i d) ∷ [])) e
+    ∙ sym (map-append f (take i ys) (getD ys i d ∷ []))
+    ∙ ap (map f) (sym (take-suc ys i d ly))
+    ∙ ap (λ (k : ℕ). map f (take k ys)) (sym (add-one i))

@@ -1,0 +1,2 @@
+-- Laws of a formula table's columns.
+pub mod Filling

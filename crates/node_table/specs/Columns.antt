@@ -1,0 +1,24 @@
+-- The columns of a formula table: what reading a table of node structs into plain arrays gives.
+--     within     how many of so many nodes are looked at: at most 1,024
+--     Unpacked   the columns begin with the operations and the numbers of the first 1,024 nodes
+use mathlib.Core.Bool.{Bool, true, false}
+use mathlib.Core.List.{List}
+use mathlib.Core.Path.{_≡_}
+use Prim.Native.Nat.{ℕ}
+use lib.Dec.{ltb}
+use lib.ListN.{length, take}
+use Rattle.node_table.specs.Node.{opsOf, numsOf}
+use Rattle.node_table.specs.declared.Columns.{Columns}
+use Rattle.node_table.specs.declared.FormulaNode.{FormulaNode}
+
+abbrev pub lesser : Bool → ℕ → ℕ
+lesser true n = n
+lesser false n = 1024
+
+abbrev pub within : ℕ → ℕ
+within n = lesser (ltb n 1024) n
+
+pub record Unpacked (table : List FormulaNode) (c : Columns) : Type 0 where
+  pub count : c .count ≡ length (take 1024 table)
+  pub ops : take (c .count) (c .ops) ≡ opsOf (take 1024 table)
+  pub nums : take (c .count) (c .nums) ≡ numsOf (take 1024 table)

@@ -1,0 +1,3 @@
+-- The definitions of a formula table of node structs.
+pub mod Columns
+pub mod Node

@@ -1,0 +1,74 @@
+// A formula table as a lent slice of node structs: thin reads of one node, and its first 1,024 nodes in plain columns. The borrow checker
+// covers no function over such a slice, so each function that is lent one is proved by hand and leaves the work to a covered function.
+ghost use mathlib.Core.Path.{_≡_};
+ghost use Prim.Native.Nat.{_+_, _<_};
+ghost use lib.ListN.{length};
+ghost use Rattle.node_table.specs.Node.{nodeOf};
+ghost use Rattle.node_table.specs.Columns.{within, Unpacked};
+
+// A node of a formula table: its operation and its number.
+pub struct FormulaNode {
+    pub op: u8,
+    pub num: u64,
+}
+
+// The node at i.
+pub fn node_at(table: &[FormulaNode], i: usize) -> FormulaNode
+    requires { ⌜ i < length (now table) ⌝ }
+    ensures { λ r. ⌜ r ≡ nodeOf (now (table .entry)) i ⌝ }
+{
+    table[i]
+}
+
+// How many nodes are lent.
+pub fn node_count(table: &[FormulaNode]) -> usize
+    ensures { λ r. ⌜ r ≡ length (now (table .entry)) ⌝ }
+{
+    table.len()
+}
+
+// A table in two columns: how many nodes there are, and their operations and numbers from the columns' start on.
+pub struct Columns {
+    pub count: usize,
+    pub ops: [u8; 1024],
+    pub nums: [u64; 1024],
+}
+
+// Columns for the first 1,024 of `len` nodes.
+fn columns_for(len: usize) -> Columns
+    ensures { λ r. ⌜ r .count ≡ within len ⌝ }
+{
+    if len < 1024 {
+        return Columns {
+            count: len,
+            ops: [0; 1024],
+            nums: [0; 1024],
+        };
+    }
+    Columns {
+        count: 1024,
+        ops: [0; 1024],
+        nums: [0; 1024],
+    }
+}
+
+// The first 1,024 nodes in columns.
+pub fn unpack(table: &[FormulaNode]) -> Columns
+    ensures { λ r. ⌜ Unpacked (now (table .entry)) r ⌝ }
+{
+    let c = columns_for(table.len());
+    let mut ops = c.ops;
+    let mut nums = c.nums;
+    let mut i = 0;
+    while i < c.count {
+        let x = table[i];
+        ops[i] = x.op;
+        nums[i] = x.num;
+        i += 1;
+    }
+    Columns {
+        count: c.count,
+        ops,
+        nums,
+    }
+}
