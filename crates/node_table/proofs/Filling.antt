@@ -3,13 +3,16 @@ use mathlib.Core.Bool.{Bool, true, false}
 use mathlib.Core.List.{List, [], _∷_, _++_, map, map-append}
 use mathlib.Core.Path.{_≡_, refl, sym, _∙_, ap, subst}
 use Prim.Native.Nat.{ℕ, suc, _+_, _≤_, _<_}
+use native.Mathlib.Nat.{min-le-right}
 use native.Mathlib.Numerals.{add-one}
 use native.Mathlib.Omega.{arith}
 use borrow.Author.Tests.{lt-ltb, le-ltb, ltb-true, ltb-false}
 use lib.Dec.{ltb}
-use lib.ListN.{length, getD, set, take}
+use lib.ListN.{length, getD, set, take, length-map, length-take}
 use lib.Seq.{take-all, take-length, take-suc, take-suc-set, length-take-le}
-use Rattle.node_table.specs.Columns.{within, lesser}
+use Rattle.node_table.specs.Columns.{within, lesser, Unpacked, Inside}
+use Rattle.node_table.specs.declared.Columns.{Columns}
+use Rattle.node_table.specs.declared.FormulaNode.{FormulaNode}
 
 pub within-few : (n : ℕ) → n < 1024 → n ≡ within n
 within-few n h = rw (lt-ltb n 1024 h)
@@ -49,3 +52,19 @@ grows f ys d xs i ly lx e =
     ∙ sym (map-append f (take i ys) (getD ys i d ∷ []))
     ∙ ap (map f) (sym (take-suc ys i d ly))
     ∙ ap (λ (k : ℕ). map f (take k ys)) (sym (add-one i))
+
+-- a front of n entries has n entries
+pub front-length : (n : ℕ) (l : List ℕ) → n ≤ length l → n ≡ length (take n l)
+front-length n l h = sym (length-take-le n l h)
+
+front-inside : (n : ℕ) (l : List ℕ) → n ≡ length (take n l) → n ≤ length l
+front-inside n l e = subst (λ (k : ℕ). k ≤ length l) (sym (e ∙ length-take n l)) (min-le-right n (length l))
+
+counted : (n : ℕ) (f : FormulaNode → ℕ) (l : List ℕ) (xs : List FormulaNode) → n ≡ length xs → take n l ≡ map f xs → n ≡ length (take n l)
+counted n f l xs e is = e ∙ sym (length-map xs f) ∙ ap length (sym is)
+
+pub unpacked-inside : (table : List FormulaNode) (c : Columns) → Unpacked table c → Inside c
+unpacked-inside table c u = record {
+  ops = front-inside (c .count) (c .ops) (counted (c .count) (λ x. x .op) (c .ops) (take 1024 table) (u .count) (u .ops));
+  nums = front-inside (c .count) (c .nums) (counted (c .count) (λ x. x .num) (c .nums) (take 1024 table) (u .count) (u .nums));
+}

@@ -1,10 +1,11 @@
 -- The columns of a formula table: what reading a table of node structs into plain arrays gives.
 --     within     how many of so many nodes are looked at: at most 1,024
 --     Unpacked   the columns begin with the operations and the numbers of the first 1,024 nodes
+--     Inside     the columns are as long as their count says
 use mathlib.Core.Bool.{Bool, true, false}
 use mathlib.Core.List.{List}
 use mathlib.Core.Path.{_≡_}
-use Prim.Native.Nat.{ℕ}
+use Prim.Native.Nat.{ℕ, _≤_}
 use lib.Dec.{ltb}
 use lib.ListN.{length, take}
 use Rattle.node_table.specs.Node.{opsOf, numsOf}
@@ -22,3 +23,7 @@ pub record Unpacked (table : List FormulaNode) (c : Columns) : Type 0 where
   pub count : c .count ≡ length (take 1024 table)
   pub ops : take (c .count) (c .ops) ≡ opsOf (take 1024 table)
   pub nums : take (c .count) (c .nums) ≡ numsOf (take 1024 table)
+
+pub record Inside (c : Columns) : Type 0 where
+  pub ops : c .count ≤ length (c .ops)
+  pub nums : c .count ≤ length (c .nums)

@@ -1,0 +1,2 @@
+-- Entry points over a table of node structs.
+pub mod Short
