@@ -2,15 +2,15 @@
 use mathlib.Core.Bool.{Bool, true, false}
 use mathlib.Core.List.{List, [], _∷_, _++_, map, map-append}
 use mathlib.Core.Path.{_≡_, refl, sym, _∙_, ap, subst}
-use Prim.Native.Nat.{ℕ, suc, _+_, _≤_, _<_}
-use native.Mathlib.Nat.{min-le-right}
+use Prim.Native.Nat.{ℕ, zero, suc, _+_, _≤_, _<_}
+use native.Mathlib.Nat.{min-le-right, not-suc-le-zero, le-of-suc-le-suc}
 use native.Mathlib.Numerals.{add-one}
 use native.Mathlib.Omega.{arith}
 use borrow.Author.Tests.{lt-ltb, le-ltb, ltb-true, ltb-false}
 use lib.Dec.{ltb}
-use lib.ListN.{length, getD, set, take, length-map, length-take}
+use lib.ListN.{length, getD, set, take, drop, length-map, length-take}
 use lib.Seq.{take-all, take-length, take-suc, take-suc-set, length-take-le}
-use Rattle.node_table.specs.Columns.{within, lesser, Unpacked, Inside}
+use Rattle.node_table.specs.Columns.{within, lesser, Unpacked, Inside, front}
 use Rattle.node_table.specs.declared.Columns.{Columns}
 use Rattle.node_table.specs.declared.FormulaNode.{FormulaNode}
 
@@ -68,3 +68,25 @@ unpacked-inside table c u = record {
   ops = front-inside (c .count) (c .ops) (counted (c .count) (λ x. x .op) (c .ops) (take 1024 table) (u .count) (u .ops));
   nums = front-inside (c .count) (c .nums) (counted (c .count) (λ x. x .num) (c .nums) (take 1024 table) (u .count) (u .nums));
 }
+
+-- ---- columns in front of a table
+map-set : {A : Type 0} (f : A → ℕ) (l : List A) (i : ℕ) (a : A) → map f (set l i a) ≡ set (map f l) i (f a)
+map-set f [] i a = refl
+map-set f (x ∷ xs) zero a = refl
+map-set f (x ∷ xs) (suc i) a = ap (λ (r : List ℕ). f x ∷ r) (map-set f xs i a)
+
+front-suc : (xs l : List ℕ) (i : ℕ) → i < length xs → i < length l → set (front i xs l) i (getD xs i 0) ≡ front (suc i) xs l
+front-suc [] l i lx ll = absurd (not-suc-le-zero lx)
+front-suc (x ∷ xs) [] i lx ll = absurd (not-suc-le-zero ll)
+front-suc (x ∷ xs) (y ∷ ys) zero lx ll = refl
+front-suc (x ∷ xs) (y ∷ ys) (suc i) lx ll = ap (λ (r : List ℕ). x ∷ r) (front-suc xs ys i (le-of-suc-le-suc lx) (le-of-suc-le-suc ll))
+
+-- a table with i nodes of the columns in front that is given the next
+pub stores : (f : FormulaNode → ℕ) (zs ys : List FormulaNode) (xs : List ℕ) (i : ℕ) (a : FormulaNode) → f a ≡ getD xs i 0 → i < length xs → i < length ys
+    → map f zs ≡ front i xs (map f ys) → map f (set zs i a) ≡ front (i + 1) xs (map f ys)
+stores f zs ys xs i a is lx ly e =
+    map-set f zs i a
+    ∙ ap (λ (l : List ℕ). set l i (f a)) e
+    ∙ ap (λ (v : ℕ). set (front i xs (map f ys)) i v) is
+    ∙ front-suc xs (map f ys) i lx (subst (λ (n : ℕ). i < n) (sym (length-map ys f)) ly)
+    ∙ ap (λ (k : ℕ). front k xs (map f ys)) (sym (add-one i))

@@ -1,2 +1,3 @@
 -- Laws of a formula table's columns.
+pub mod Arrays
 pub mod Filling

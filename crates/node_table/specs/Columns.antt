@@ -2,12 +2,14 @@
 --     within     how many of so many nodes are looked at: at most 1,024
 --     Unpacked   the columns begin with the operations and the numbers of the first 1,024 nodes
 --     Inside     the columns are as long as their count says
+--     front      a column's first n entries in front of what stood past them
+--     Packed     the table with the nodes of the columns in front, and every node past them as before
 use mathlib.Core.Bool.{Bool, true, false}
-use mathlib.Core.List.{List}
+use mathlib.Core.List.{List, _++_}
 use mathlib.Core.Path.{_≡_}
 use Prim.Native.Nat.{ℕ, _≤_}
 use lib.Dec.{ltb}
-use lib.ListN.{length, take}
+use lib.ListN.{length, take, drop}
 use Rattle.node_table.specs.Node.{opsOf, numsOf}
 use Rattle.node_table.specs.declared.Columns.{Columns}
 use Rattle.node_table.specs.declared.FormulaNode.{FormulaNode}
@@ -27,3 +29,10 @@ pub record Unpacked (table : List FormulaNode) (c : Columns) : Type 0 where
 pub record Inside (c : Columns) : Type 0 where
   pub ops : c .count ≤ length (c .ops)
   pub nums : c .count ≤ length (c .nums)
+
+abbrev pub front : ℕ → List ℕ → List ℕ → List ℕ
+front n xs l = take n xs ++ drop n l
+
+pub record Packed (c : Columns) (table table′ : List FormulaNode) : Type 0 where
+  pub ops : opsOf table′ ≡ front (c .count) (c .ops) (opsOf table)
+  pub nums : numsOf table′ ≡ front (c .count) (c .nums) (numsOf table)

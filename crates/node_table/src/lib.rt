@@ -1,10 +1,10 @@
 // A formula table as a lent slice of node structs: thin reads of one node, and its first 1,024 nodes in plain columns. The borrow checker
 // covers no function over such a slice, so each function that is lent one is proved by hand and leaves the work to a covered function.
 ghost use mathlib.Core.Path.{_≡_};
-ghost use Prim.Native.Nat.{_+_, _<_};
-ghost use lib.ListN.{length};
+ghost use Prim.Native.Nat.{_+_, _≤_, _<_};
+ghost use lib.ListN.{length, set};
 ghost use Rattle.node_table.specs.Node.{nodeOf};
-ghost use Rattle.node_table.specs.Columns.{within, Unpacked};
+ghost use Rattle.node_table.specs.Columns.{within, Unpacked, Inside, Packed};
 
 // A node of a formula table: its operation and its number.
 pub struct FormulaNode {
@@ -70,5 +70,31 @@ pub fn unpack(table: &[FormulaNode]) -> Columns
         count: c.count,
         ops,
         nums,
+    }
+}
+
+// Stores a node at i.
+pub fn put_node(table: &mut [FormulaNode], i: usize, node: FormulaNode)
+    requires { ⌜ i < length (now table) ⌝ }
+    ensures { λ _. ⌜ now (table .exit) ≡ set (now (table .entry)) i node ⌝ }
+{
+    table[i] = node;
+}
+
+// Stores the nodes of two columns at the table's front.
+pub fn pack(table: &mut [FormulaNode], c: Columns)
+    requires { ⌜ Inside c × (c .count ≤ length (now table)) ⌝ }
+    ensures { λ _. ⌜ Packed c (now (table .entry)) (now (table .exit)) ⌝ }
+{
+    let ops = c.ops;
+    let nums = c.nums;
+    let mut i = 0;
+    while i < c.count {
+        let x = FormulaNode {
+            op: ops[i],
+            num: nums[i],
+        };
+        table[i] = x;
+        i += 1;
     }
 }

@@ -23,17 +23,16 @@ use prog.Wp.{Heap, Out, Env, Calls, Loops, Wp, WpFn, Tables, afterSeq, afterBloc
 use ghost.Atoms.{Atoms, sem}
 use contract.Monad.{Fun, fact}
 use contract.Running.{givenOf, tables, tablesOf}
-use types.Kit.{Given, Item, Sq, ‵, raw, _⊛_, some, later, runs, anyQ, atRet, ⋆, _$_, _∵_, !, qed, by, move, keep, drop, use1, use2, split, join, pick, rewrite, fsplit, fjoin, fpick, fpack, feqL, feqI, fltI, suffices, frame, await, done}
+use types.Kit.{Given, Item, Sq, ‵, raw, _⊛_, some, later, runs, anyQ, atRet, ⋆, _$_, _∵_, !, qed, by, move, keep, drop, use1, use2, split, join, pick, rewrite, fsplit, fjoin, feqL, suffices, frame, await, done}
 use types.Part.{whole, sub, look-in, agg}
 use types.Run.{look, look-raw, store, init, forget, stop, hop, fld, from, load, lit, and-then, no-more, of-opd, bin, addr, assigns, assigns-last, land, first, blocks, stays, leaves-loop, loops, again, Below, exec, returns, enter, alloc1, alloc0, params1, pass1, pass0, free1, free0}
 use types.Share.{arr-parts}
 use sound.WpLaws.{FmC, fmOf, WpFn-mono}
 use denote.Exit.{yes}
 use denote.RattleType.{RattleType, owns}
-use denote.Laws.{Is, Tells, shows, valss}
-use denote.Memory.{cellAt, partAt, shares, partOf, pointee}
-use denote.Array.{Array, array-makes}
-use denote.ArrayMemory.{Single, array-apart, array-whole}
+use denote.Laws.{Is, shows}
+use denote.Memory.{cellAt, shares, pointee}
+use denote.Array.{array-makes}
 use denote.Plain.{uint-vals, uint-tells, uint-makes}
 use denote.Ref.{RefT}
 use denote.Slice.{sliceTy, sliceVal, ShrSlice, Room, slice-vals, shr-slice-tells, shr-slice-copy}
@@ -41,10 +40,7 @@ use denote.Index.{row, place-is, place-byte, elem-out, elem-back, elem-put, look
 use denote.Signature.{plain}
 use denote.Builtin.{u8, u64, usize}
 use denote.Steps.{only, nothing, owned, peeks, heard}
-use denote.Struct.Declared.{fields}
 use denote.Struct.Laws as LL
-use denote.Struct.Struct.{AreAll}
-use denote.Struct.Steps.{spelt}
 use denote.Triple.Statement.{Contract, Triple}
 use denote.Triple.Call.{calls-at}
 use denote.Triple.Clauses.{ensured, lasts}
@@ -56,6 +52,7 @@ use Rattle.node_table.specs.Node.{blank, nodeOf, opsOf, numsOf}
 use Rattle.node_table.specs.Columns.{within, Unpacked}
 use Rattle.node_table.specs.declared.FormulaNode.{FormulaNode}
 use Rattle.node_table.specs.declared.Columns.{Columns}
+use Rattle.node_table.proofs.Arrays.{A8, A64, val8, val64, apart, together}
 use Rattle.node_table.proofs.Filling.{within-all, within-lent, within-takes, within-counts, grows}
 use Rattle.node_table.proofs.FormulaNode as N
 use Rattle.node_table.proofs.FormulaNode.Laws as N′
@@ -79,36 +76,6 @@ node-vals = LL.vals N.the-type N′.the-laws
 
 abbrev node-val : FormulaNode → Val
 node-val = LL.val N.the-type N′.the-laws
-
--- the arrays' machine values
-abbrev val8 : List ℕ → Val
-val8 xs = T′.the-laws .1 .0 .val xs
-
-abbrev val64 : List ℕ → Val
-val64 xs = T′.the-laws .1 .1 .0 .val xs
-
-abbrev A8 : RattleType
-A8 = Array u8 1024
-
-abbrev A64 : RattleType
-A64 = Array u64 1024
-
--- an array in a local is its elements, side by side, and the other way round
-module _ {M : Type 1} (𝓤 : URA M) (H : Heap 𝓤) (A : Atoms 𝓤) (W : Given 𝓤 H A) (R : RattleType) (n : ℕ) (b : ℕ) (xs : List (R .Denot)) where
-  apart : Single (R .mir) → (v : Val) → ent 𝓤 (sep 𝓤 (sem 𝓤 H A (cellAt fullShare (Array R n .mir) (v ∷ []) b 0)) (sem 𝓤 H A (Array R n .own xs (v ∷ [])))) (sem 𝓤 H A (fsep (feq ℕ (length xs) n) (row R fullShare xs b 0)))
-  unfolding partOf
-  apart one v =
-      qed W (‵ (cellAt fullShare (Array R n .mir) (v ∷ []) b 0) ∷ ‵ (Array R n .own xs (v ∷ [])) ∷ []) ∵ fjoin ! $
-      fpack ! (List Val) (λ vs. fsep (cellAt fullShare (Array R n .mir) vs b 0) (Array R n .own xs vs)) (v ∷ []) $
-      use1 W (‵ (arr-parts (shares R) n .part fullShare xs b 0)) (array-apart 𝓤 H A W R fullShare one n xs b 0) $ done !
-
-  together : (val : List (R .Denot) → Val) → Tells (Array R n) (Is (Array R n)) (λ ys. val ys ∷ []) → length xs ≡ n
-      → ent 𝓤 (sem 𝓤 H A (row R fullShare xs b 0)) (sem 𝓤 H A (fsep (cellAt fullShare (Array R n .mir) (val xs ∷ []) b 0) (Array R n .own xs (val xs ∷ []))))
-  unfolding partOf
-  together val tells e =
-      qed W (‵ (row R fullShare xs b 0) ∷ []) ∵ feqI ! ℕ (length xs) n e $ fjoin ! $
-      use1 W (‵ (partAt (Array R n) fullShare xs b 0)) (array-whole 𝓤 H A W R fullShare n xs b 0) $ fpick ! (λ vs. fsplit ! $
-      spelt ! (Array R n) (Is (Array R n)) (shows 𝓤 H A (Array R n)) (λ ys. val ys ∷ []) tells fullShare xs vs b 0 $ fjoin ! $ done !)
 
 -- how far the loop has come, of n turns over ys
 record State (ys : List FormulaNode) (n : ℕ) : Type 0 where
