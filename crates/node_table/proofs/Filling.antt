@@ -1,6 +1,6 @@
 -- How many of a table's nodes are looked at, and what one more node adds to a column.
 use mathlib.Core.Bool.{Bool, true, false}
-use mathlib.Core.List.{List, [], _∷_, _++_, map, map-append}
+use mathlib.Core.List.{List, [], _∷_, _++_, map, map-append, head-eq-of-cons-eq, tail-eq-of-cons-eq}
 use mathlib.Core.Path.{_≡_, refl, sym, _∙_, ap, subst}
 use Prim.Native.Nat.{ℕ, zero, suc, _+_, _≤_, _<_}
 use native.Mathlib.Nat.{min-le-right, not-suc-le-zero, le-of-suc-le-suc}
@@ -10,6 +10,7 @@ use borrow.Author.Tests.{lt-ltb, le-ltb, ltb-true, ltb-false}
 use lib.Dec.{ltb}
 use lib.ListN.{length, getD, set, take, drop, length-map, length-take}
 use lib.Seq.{take-all, take-length, take-suc, take-suc-set, length-take-le}
+use Rattle.node_table.specs.Node.{opsOf, numsOf}
 use Rattle.node_table.specs.Columns.{within, lesser, Unpacked, Inside, front}
 use Rattle.node_table.specs.declared.Columns.{Columns}
 use Rattle.node_table.specs.declared.FormulaNode.{FormulaNode}
@@ -90,3 +91,13 @@ stores f zs ys xs i a is lx ly e =
     ∙ ap (λ (v : ℕ). set (front i xs (map f ys)) i v) is
     ∙ front-suc xs (map f ys) i lx (subst (λ (n : ℕ). i < n) (sym (length-map ys f)) ly)
     ∙ ap (λ (k : ℕ). front k xs (map f ys)) (sym (add-one i))
+
+-- a table is its operations and its numbers
+pub same-table : (t u : List FormulaNode) → opsOf t ≡ opsOf u → numsOf t ≡ numsOf u → t ≡ u
+same-table [] [] o n = refl
+same-table [] (y ∷ u) o n = absurd (let z : _≡_ {A = ℕ} 0 1 = cc in omega arith)
+same-table (x ∷ t) [] o n = absurd (let z : _≡_ {A = ℕ} 0 1 = cc in omega arith)
+same-table (x ∷ t) (y ∷ u) o n =
+    ap (λ (a : ℕ). record { op = a; num = x .num } ∷ t) (head-eq-of-cons-eq o)
+    ∙ ap (λ (a : ℕ). record { op = y .op; num = a } ∷ t) (head-eq-of-cons-eq n)
+    ∙ ap (λ (r : List FormulaNode). y ∷ r) (same-table t u (tail-eq-of-cons-eq o) (tail-eq-of-cons-eq n))

@@ -1,0 +1,3 @@
+-- Laws of reading into columns.
+pub mod Kept
+pub mod Reading

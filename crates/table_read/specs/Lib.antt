@@ -1,0 +1,2 @@
+-- Reading a book into a table of node structs.
+pub mod Filling

@@ -1,0 +1,85 @@
+// Reading a book into a formula table that is lent as a slice of node structs. The book is read by the core, `reader::read::read_book`, into
+// columns, and the nodes are stored in the table one by one. Callers with plain slices call `read_book` themselves.
+use node_table::Columns;
+use node_table::FormulaNode;
+use node_table::pack;
+use reader::read::Answer;
+use reader::read::read_book;
+ghost use mathlib.Core.Path.{_≡_};
+ghost use Rattle.node_table.specs.Node.{opsOf, numsOf};
+ghost use Rattle.reader.specs.Answer.{Reads};
+ghost use Rattle.table_read.specs.Filling.{Fills, nodesOf};
+
+// The answer, and the book's nodes in columns.
+pub struct Filling {
+    pub answer: Answer,
+    pub columns: Columns,
+}
+
+// How many nodes an answer says were read.
+fn node_count(answer: Answer) -> usize
+    ensures { λ r. ⌜ r ≡ nodesOf answer ⌝ }
+{
+    match answer {
+        Answer::Read { nodes, .. } => nodes,
+        Answer::Refused { .. } => 0,
+    }
+}
+
+// Reads a book into a rule list and into columns, for a formula table of `len` nodes.
+fn read_columns(
+    len: usize,
+    text: &[u8],
+    labels: &mut [u8],
+    lens: &mut [usize],
+    kinds: &mut [u8],
+    firsts: &mut [usize],
+    counts: &mut [usize],
+) -> Filling
+    ensures { λ r. ⌜ Fills len (now (text .entry)) (record { labels = now (labels .entry); lens = now (lens .entry); kinds = now (kinds .entry); firsts = now (firsts .entry); counts = now (counts .entry) }) r (record { labels = now (labels .exit); lens = now (lens .exit); kinds = now (kinds .exit); firsts = now (firsts .exit); counts = now (counts .exit) }) ⌝ }
+{
+    let mut ops = [0u8; 1024];
+    let mut nums = [0u64; 1024];
+    if len < 1024 {
+        let columns = Columns {
+            count: 0,
+            ops,
+            nums,
+        };
+        let answer = Answer::Refused { number: 1, line: 0 };
+        return Filling { answer, columns };
+    }
+    let answer = read_book(
+        text,
+        labels,
+        lens,
+        kinds,
+        firsts,
+        counts,
+        &mut ops,
+        &mut nums,
+    );
+    let columns = Columns {
+        count: node_count(answer),
+        ops,
+        nums,
+    };
+    Filling { answer, columns }
+}
+
+// Reads a book: its rules into the rule list, its nodes into the table's front.
+pub fn read_table(
+    text: &[u8],
+    labels: &mut [u8],
+    lens: &mut [usize],
+    kinds: &mut [u8],
+    firsts: &mut [usize],
+    counts: &mut [usize],
+    table: &mut [FormulaNode],
+) -> Answer
+    ensures { λ r. ⌜ Reads (now (text .entry)) (record { labels = now (labels .entry); lens = now (lens .entry); kinds = now (kinds .entry); firsts = now (firsts .entry); counts = now (counts .entry); ops = opsOf (now (table .entry)); nums = numsOf (now (table .entry)) }) r (record { labels = now (labels .exit); lens = now (lens .exit); kinds = now (kinds .exit); firsts = now (firsts .exit); counts = now (counts .exit); ops = opsOf (now (table .exit)); nums = numsOf (now (table .exit)) }) ⌝ }
+{
+    let f = read_columns(table.len(), text, labels, lens, kinds, firsts, counts);
+    pack(table, f.columns);
+    f.answer
+}
