@@ -3,11 +3,11 @@ use mathlib.Core.Bool.{Bool, true, false}
 use mathlib.Core.List.{List, [], _∷_, _++_, map, map-append, head-eq-of-cons-eq, tail-eq-of-cons-eq}
 use mathlib.Core.Path.{_≡_, refl, sym, _∙_, ap, subst}
 use Prim.Native.Nat.{ℕ, zero, suc, _+_, _≤_, _<_}
-use native.Mathlib.Nat.{min-le-right, not-suc-le-zero, le-of-suc-le-suc}
+use native.Mathlib.Nat.{lt-of-le-of-lt, min-le-right, not-suc-le-zero, le-of-suc-le-suc}
 use native.Mathlib.Numerals.{add-one}
 use native.Mathlib.Omega.{arith}
-use borrow.Author.Tests.{lt-ltb, le-ltb, ltb-true, ltb-false}
-use lib.Dec.{ltb}
+use borrow.Author.Tests.{lt-ltb, le-ltb, lt-leb, ltb-true, ltb-false}
+use lib.Dec.{ltb, leb}
 use lib.ListN.{length, getD, set, take, drop, length-map, length-take}
 use lib.Seq.{take-all, take-length, take-suc, take-suc-set, length-take-le}
 use Rattle.node_table.specs.Node.{opsOf, numsOf}
@@ -101,3 +101,10 @@ same-table (x ∷ t) (y ∷ u) o n =
     ap (λ (a : ℕ). record { op = a; num = x .num } ∷ t) (head-eq-of-cons-eq o)
     ∙ ap (λ (a : ℕ). record { op = y .op; num = a } ∷ t) (head-eq-of-cons-eq n)
     ∙ ap (λ (r : List FormulaNode). y ∷ r) (same-table t u (tail-eq-of-cons-eq o) (tail-eq-of-cons-eq n))
+
+-- ---- a table of less than 1,024 nodes
+looked-at : (table : List FormulaNode) → length (opsOf (take 1024 table)) ≤ length table
+looked-at table = subst (λ (n : ℕ). n ≤ length table) (sym (length-map (take 1024 table) (λ x. x .op) ∙ length-take 1024 table)) (min-le-right 1024 (length table))
+
+pub no-room : (table : List FormulaNode) → length table < 1024 → leb 1024 (length (opsOf (take 1024 table))) ≡ false
+no-room table short = lt-leb 1024 (length (opsOf (take 1024 table))) (lt-of-le-of-lt (looked-at table) short)

@@ -1,0 +1,2 @@
+-- Laws of the entry points.
+pub mod Short

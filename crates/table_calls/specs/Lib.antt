@@ -1,2 +1,0 @@
--- Entry points over a table of node structs.
-pub mod Short
