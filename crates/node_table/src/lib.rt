@@ -1,5 +1,6 @@
-// A formula table as a lent slice of node structs: thin reads of one node, and its first 1,024 nodes in plain columns. The borrow checker
-// covers no function over such a slice, so each function that is lent one is proved by hand and leaves the work to a covered function.
+// A formula table as a lent slice of node structs: one node read or stored, the first 1,024 nodes read into plain columns, and columns stored in
+// front. The borrow checker covers no function that is lent such a slice, so each is proved by hand. They are the only ones that touch a node:
+// the entry points over such a table (crates `table_calls`, `table_read`, `table_step`) hand plain columns on to the core.
 ghost use mathlib.Core.Path.{_≡_};
 ghost use Prim.Native.Nat.{_+_, _≤_, _<_};
 ghost use lib.ListN.{length, set};
