@@ -789,92 +789,172 @@ def ask(oracle, books, mode="batch"):
 # ---- vectors
 
 
-MADE = """{count} books and the answers of the Rust to them: compare/books.py vectors, seed {seed}, answered by compare/oracle over the source.
-In `books` and in `answers` each text is its length as 8 decimal digits and LF, then its bytes; the texts stand in the same order.
+SOURCE = "d1c1b31563"  # the source's commit, as in NOTICE
+MADE = """{count} books and the Rust's answers: compare/run --seed {seed} vectors crates/replay/data, the source at commit {commit}.
 """
+OPERANDS = {w: 1 for w in ONE + BOUNDED} | {w: 2 for w in TWO} | {w: 0 for w in ATOMS}
 
 
-def shown(answer):
-    """What an answer shows: its refusal, or the kinds of its lines."""
+def reached(lines):
+    """How many rules the lines have, nodes of one rule, nodes, depth; the longest label."""
+    rules, nodes, most, total, deepest, label, due = 0, 0, 0, 0, 0, 0, []
+    for line in lines:
+        fields = line.split(b"\t")
+        word = fields[0].decode("latin-1")
+        if word == "rule" and len(fields) == 3:
+            rules, nodes, due, label = rules + 1, 0, [1], max(label, len(fields[1]))
+        elif word in OPERANDS:
+            here = due.pop() if due else 0
+            nodes, total, deepest = nodes + 1, total + 1, max(deepest, here)
+            most = max(most, nodes)
+            due += [here + 1] * OPERANDS[word]
+    return {"rules": rules, "nodes of a rule": most, "nodes": total, "depth": deepest, "bytes of a label": label}
+
+
+LIMITS = {"rules": 64, "nodes of a rule": 256, "nodes": 1024, "depth": 64, "bytes of a label": 32}
+
+
+def shown_refused(data, number, line):
+    out = {f"refused {number}"}
+    at = reached(data.split(b"\n")[: int(line)])
+    if number == "9":
+        out |= {f"refused for {limit + 1} {name}" for name, limit in LIMITS.items() if at[name] == limit + 1}
+    if number == "7" and at["bytes of a label"] == 33:
+        out.add("refused for 33 bytes of a label")
+    if number == "3" and len(data) == 65536:
+        out.add("refused for 65536 bytes")
+    if number == "4" and len(data) == 65535:
+        out.add("refused for no LF at byte 65535")
+    return out
+
+
+def shown_steps(data):
+    steps = [int(line.split(b"\t")[1]) for line in data.splitlines() if line.startswith(b"step\t")]
     out = set()
-    for line in answer.decode().splitlines():
-        fields = line.split("\t")
+    for s, t in zip(steps, steps[1:]):
+        out.add("a gap" if s + 1 < t else "a repeat" if s == t else "a step back" if t < s else "the next step")
+    return out | ({"step 2^63-1"} if LAST_STEP in steps else set()) | ({"first step above 0"} if steps and 0 < steps[0] else set())
+
+
+def shown(data, answer):
+    """What a book and its answer show: a refusal, or limits met, kinds of lines, of nodes, of reports."""
+    text_lines = [line.split("\t") for line in answer.decode().splitlines()]
+    if text_lines[0][0] == "refused":
+        return shown_refused(data, *text_lines[0][1:])
+    out, kinds, roots, rule_words = set(), {}, {}, set()
+    at = reached(data.splitlines())
+    out |= {f"{limit} {name}" for name, limit in LIMITS.items() if at[name] == limit}
+    if len(data) == 65535:
+        out |= {"65535 bytes"} | ({"65535 bytes with 64 rules"} if at["rules"] == 64 else set())
+    if not data:
+        out.add("the empty book")
+    if data and not at["rules"]:
+        out.add("steps without rules")
+    number = "-"
+    for fields in text_lines:
         if fields[0] == "rule":
-            out |= {"rule " + fields[4]} | ({"alike"} if fields[7] != "-" else set())
+            number = fields[1]
+            kinds[number] = fields[3]
+            out |= {f"rule {fields[4]}", f"rule {fields[4]} {fields[3]}"} | ({"alike"} if fields[7] != "-" else set())
+        elif fields[0] == "node":
+            form, bound, start, end = fields[2:6]
+            roots.setdefault(number, form)
+            if form == "B":
+                out.add(f"bound {bound}")
+            out |= {f"node {form}", f"start {start}", f"{form} {'open' if end == '*' else 'ends'}", f"end {end}"}
+            out |= {f"signal {c}" for c in "!&|vio" if c in "".join(fields[6:])}
+            if form == "B" and fields[6] == "T":
+                out.add("signal T")
+        elif fields[0] == "live":
+            out |= {f"live {fields[1]}"} | {f"skeleton {c}" for c in "!&|>#s" if c in fields[2]}
+        elif fields[0] == "owe":
+            out |= {f"owe {fields[2]}"}
         elif fields[0] == "report":
-            out.add("report without culprit" if fields[3] == "-1" else "report with culprit")
-        elif fields[0] != "end":
-            out.add(fields[0] + " " + fields[{"refused": 1, "node": 2, "live": 1, "owe": 2}[fields[0]]])
+            blamed = "-1" if fields[3] == "-1" else "0" if fields[3] == "0" else "later"
+            out |= {f"report of {roots[fields[2]]}, culprit {blamed}", f"report of a rule {kinds[fields[2]]}"}
+    if any(x.startswith("report") for x in out):
+        out |= {f"report after {x}" for x in shown_steps(data)}
     return out
 
 
 WANTED = (
     {f"refused {n}" for n in range(3, 11)}
-    | {f"rule {n}" for n in [0] + list(range(11, 20))}
+    | {f"rule {n}{kind}" for n in [0] + list(range(11, 20)) for kind in [" P", " A"]}
     | {f"live {n}" for n in ["none", 0, 20, 21, 22, 23]}
     | {f"node {form}" for form in "CDBAO"}
-    | {"owe E", "owe U", "alike", "report with culprit", "report without culprit"}
+    | {f"{form} {end}" for form in "CDB" for end in ["open", "ends"]}
+    | {f"bound {b}" for b in [0, 1, 2, 3, 4, TOP]}
+    | {f"end {b}" for b in [0, 1, TOP - 1, TOP]}
+    | {"start 0", "start 1", "owe E", "owe U", "alike", "the empty book", "steps without rules"}
+    | {f"signal {c}" for c in "!&|vioT"}
+    | {f"skeleton {c}" for c in "!&|>#s"}
+    | {f"{limit} {name}" for name, limit in LIMITS.items()}
+    | {f"refused for {limit + 1} {name}" for name, limit in LIMITS.items()}
+    | {"65535 bytes", "65535 bytes with 64 rules", "refused for 65536 bytes", "refused for no LF at byte 65535", "report of a rule P", "report of a rule A"}
+    | {f"report of {form}, culprit -1" for form in "CDAO"}
+    | {f"report of {form}, culprit {b}" for form in "BAO" for b in ["0", "later"]}
+    | {f"report after {x}" for x in ["a gap", "a repeat", "a step back", "the next step", "step 2^63-1", "first step above 0"]}
 )
 
 
-def vectors(folder, oracle, seed):
-    """A spread of small books, and a few that meet the limits."""
-    rng = random.Random(f"{seed} vectors")
-    chosen = list(hand_books())[:17]
-    rest = list(hand_books())[17:]
-    chosen += rest[-28:] + rng.sample(rest[:-28], 90)
-    light = [b for b in fault_books() if len(b) < 300]
-    heavy = [b for b in fault_books() if 300 <= len(b)]
-    limits = [b for b in limit_books() if len(b) < 4000]
-    large = [b for b in limit_books() if 4000 <= len(b) < 20000]
-    full = [b for b in limit_books() if 20000 <= len(b) <= 65536]
-    chosen += rng.sample(light, 60) + rng.sample(limits, 60) + rng.sample(large, 8)
-    # one book for each answer that a fault gives at a place, each number
-    by_number = {}
-    for b, a in zip(heavy, ask(oracle, heavy)):
-        by_number.setdefault(a.split(b"\t")[1] if a.startswith(b"refused") else b"ok", []).append(b)
-    for number in sorted(by_number):
-        chosen += rng.sample(by_number[number], min(4, len(by_number[number])))
-    by_number = {}
-    for b, a in zip(light, ask(oracle, light)):
-        by_number.setdefault(a.split(b"\t")[1] if a.startswith(b"refused") else b"ok", []).append(b)
-    for number in sorted(by_number):
-        chosen += rng.sample(by_number[number], min(12, len(by_number[number])))
-    answers = ask(oracle, full)
-    accepted = [b for b, a in zip(full, answers) if not a.startswith(b"refused")]
-    over = [b for b, a in zip(full, answers) if a.startswith(b"refused\t3")]
-    chosen += accepted[:2] + over[:1]
+def vector_groups(rng, oracle):
+    """The books to choose from: a group and its number of vectors, at least."""
     small = small_formulas()
-    for _ in range(30):
-        chosen.append(book(as_rules(rng, rng.sample(small, 12), True), random_record(rng, 2, 6)))
     good = compiled(oracle, small)
-    for _ in range(40):
-        chosen.append(book(as_rules(rng, rng.sample(good, 16), True), random_record(rng, 2, 8)))
-    chosen += [joined_book(rng) for _ in range(40)]
-    while len(chosen) < 600:
-        b = random_book(rng)
-        chosen.append(b if rng.random() < 0.75 else damaged(rng, b))
-    seen, books = set(), []
-    for b in chosen:
-        if b not in seen:
-            seen.add(b)
-            books.append(b)
-    answers = ask(oracle, books)
-    kept = [(b, a) for b, a in zip(books, answers) if len(a) <= 65535]
-    missing = WANTED - set().union(*[shown(a) for _, a in kept])
+    hand = list(hand_books())
+    yield 17, hand[:17]
+    yield 100, hand[17:]
+    yield 40, list(limit_books())
+    yield 70, list(fault_books())
+    yield 14, [book(as_rules(rng, rng.sample(small, 12), True), random_record(rng, 2, 6)) for _ in range(60)]
+    yield 26, [book(as_rules(rng, rng.sample(good, 16), True), random_record(rng, 2, 8)) for _ in range(100)]
+    yield 36, [joined_book(rng) for _ in range(200)]
+    yield 44, [random_book(rng) for _ in range(600)]
+    yield 16, [damaged(rng, random_book(rng)) for _ in range(300)]
+
+
+def vectors(folder, oracle, seed):
+    """Document 01's trips; for each thing wanted the two shortest books and one more, as long as fewer than three show it; a spread of each group."""
+    rng = random.Random(f"{seed} vectors")
+    traits, spread, chosen, counts = {}, [], [], {}
+    for many, group in vector_groups(rng, oracle):
+        group = [b for b in dict.fromkeys(group) if b not in traits and len(b) <= 65536]
+        pairs = [(b, a) for b, a in zip(group, ask(oracle, group)) if len(a) <= 65535]
+        spread.append((many, [b for b, _ in pairs if len(b) < 3000]))
+        traits.update((b, shown(b, a)) for b, a in pairs)
+
+    def take(b):
+        chosen.append(b)
+        for x in traits[b]:
+            counts[x] = counts.get(x, 0) + 1
+
+    for b in spread.pop(0)[1]:
+        take(b)
+    for x in sorted(WANTED):
+        having = sorted((b for b in traits if x in traits[b] and b not in chosen), key=len)
+        more = [b for b in having[2:] if len(b) < 3000]
+        for b in having[:2] + rng.sample(more, min(1, len(more))):
+            if counts.get(x, 0) < 3:
+                take(b)
+    missing = sorted(x for x in WANTED if x not in counts)
     if missing:
-        sys.exit(f"no vector shows: {sorted(missing)}")
+        sys.exit(f"no vector shows: {missing}")
+    for many, group in spread:
+        left = [b for b in group if b not in chosen]
+        for b in rng.sample(left, max(0, many - len(group) + len(left))):
+            take(b)
+    answers = ask(oracle, chosen)
     os.makedirs(folder, exist_ok=True)
     with open(os.path.join(folder, "books"), "wb") as f:
-        f.write(b"".join(frame(b) for b, _ in kept))
+        f.write(b"".join(frame(b) for b in chosen))
     with open(os.path.join(folder, "answers"), "wb") as f:
-        f.write(b"".join(frame(a) for _, a in kept))
+        f.write(b"".join(frame(a) for a in answers))
     with open(os.path.join(folder, "made"), "w") as f:
-        f.write(MADE.format(count=len(kept), seed=seed))
+        f.write(MADE.format(count=len(chosen), seed=seed, commit=SOURCE))
     total = sum(os.path.getsize(os.path.join(folder, name)) for name in ["books", "answers", "made"])
-    print(f"{len(kept)} vectors, {total} bytes")
-    if total > 1_000_000:
-        sys.exit("over 1 MB")
+    print(f"{len(chosen)} vectors, {total} bytes; each of {len(WANTED)} things wanted is shown by {min(counts[x] for x in WANTED)} or more")
+    if total > 1_500_000:
+        sys.exit("over 1.5 MB")
 
 
 def main():
