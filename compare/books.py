@@ -3,6 +3,7 @@
 
     books.py books OUT [--seed N] [--random N] [--records N] [--oracle ORACLE]
     books.py vectors DIR --oracle ORACLE [--seed N]
+    books.py largest OUT
 
 OUT holds many books: each is its length as 8 decimal digits and LF, then its bytes. --random is the
 number of random books (a sixth more have joined nodes only), --records the number of random records
@@ -745,6 +746,21 @@ def hand_books():
     yield text([step(3, TOP), step(3, 0), step(0, 5)])
 
 
+# ---- the largest book, for the bench
+
+
+def largest_book():
+    """65,535 bytes: 64 rules of one node each, and steps without a report, the last after a gap."""
+    forms = [("always", ("implies", V0, ("within", 3, V1))), ("always", V2), ("always", ("implies", V0, ("next", V1)))]
+    out = book([(f"r{k}", "P", forms[k % 3]) for k in range(64)], [])
+    s, line = 0, b""
+    while len(out + line) <= 65535 - 24:
+        out += line
+        line = text([step(s, [5, 6, 4, 4, 4][s % 5])])
+        s += 1
+    return out + text([step(10 ** (65535 - len(out) - 24), 4)])
+
+
 # ---- all of it
 
 
@@ -959,7 +975,7 @@ def vectors(folder, oracle, seed):
 
 def main():
     parser = argparse.ArgumentParser(description=__doc__, formatter_class=argparse.RawDescriptionHelpFormatter)
-    parser.add_argument("what", choices=["books", "vectors"])
+    parser.add_argument("what", choices=["books", "vectors", "largest"])
     parser.add_argument("out")
     parser.add_argument("--seed", type=int, default=1)
     parser.add_argument("--random", type=int, default=20000)
@@ -968,6 +984,10 @@ def main():
     words = parser.parse_args()
     if words.what == "vectors":
         vectors(words.out, words.oracle, words.seed)
+        return
+    if words.what == "largest":
+        with open(words.out, "wb") as f:
+            f.write(largest_book())
         return
     count = 0
     with open(words.out, "wb") as f:
