@@ -14,7 +14,7 @@ use Rattle.formula.specs.Spells.{Spells}
 use Rattle.formula.specs.Formula.{Atom, Unary, Binary, Formula, Node, node, signal, not, next, always, eventually, always-for, within, and, or, implies, until}
 use Rattle.formula.specs.Table.{nodeAt, inWord, Placed}
 use Rattle.formula.specs.Pure.{pure, value, joined, bit}
-use Rattle.formula.specs.Signal.{endIf, Purely, Signalled, Valued}
+use Rattle.formula.specs.Signal.{endIf, Purely, Signalled, Valued, Held}
 use Rattle.formula.specs.declared.table.Walk.{Walk}
 use Rattle.formula.specs.declared.table.Walk.the-variants.{Upto, Stuck}
 use Rattle.formula.specs.declared.signal.Value.{Value}
@@ -288,3 +288,9 @@ module _ (ops nums : List ℕ) (i : ℕ) (g : Signalled ops nums i) where
         let (a, e, n) = leaf-there ops nums i f s h in
         (q ∙ sym (ap (λ (c : Formula). value c w) e ∙ ap (λ (m : ℕ). bit m w) n), ap (λ (m : ℕ). i + m) (sym (ap (λ (c : Formula). size c) e)));
   }
+
+  pub held-leaf : (w : ℕ) (b : Bool) → b ≡ bit (getD nums i 0) w → getD ops i 0 < 3 → Held ops nums i w b
+  held-leaf w b q h = record { is = λ f s. valued-leaf w b q h .is f s .0 }
+
+  pub held-value : (w : ℕ) (v : Value) → Valued ops nums i w v → Held ops nums i w (v .value)
+  held-value w v x = record { is = λ f s. x .is f s .0 }

@@ -5,7 +5,7 @@ ghost use mathlib.Core.Bool.{Bool, _&&_, _||_, not};
 ghost use Prim.Native.Nat.{_<_};
 ghost use Rattle.formula.specs.Table.{Placed};
 ghost use Rattle.formula.specs.Pure.{bit, joined};
-ghost use Rattle.formula.specs.Signal.{Purely, Signalled, Valued};
+ghost use Rattle.formula.specs.Signal.{Purely, Signalled, Valued, Held};
 
 // Where the formula at i ends, if it is pure.
 pub fn pure_at(ops: &[u8], nums: &[u64], i: usize) -> Walk
@@ -92,4 +92,16 @@ pub fn value_at(ops: &[u8], nums: &[u64], i: usize, word: u64) -> Value
         value: join(op, left.value, right.value),
         end: right.end,
     }
+}
+
+// The value alone: an atom's is read without a walk.
+pub fn holds_at(ops: &[u8], nums: &[u64], i: usize, word: u64) -> bool
+    requires { ⌜ Signalled (now ops) (now nums) i ⌝ }
+    ensures { λ r. ⌜ Held (now (ops .entry)) (now (nums .entry)) i word r ⌝ }
+{
+    if ops[i] < 3 {
+        return truth(word, nums[i]);
+    }
+    let v = value_at(ops, nums, i, word);
+    v.value
 }

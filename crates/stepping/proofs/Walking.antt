@@ -10,6 +10,7 @@ use lib.ListN.{length, getD}
 use mir.Syntax.{w64}
 use mir.Val.{Fits, SFits, toZ, ofZ}
 use mir.Facts.{toZ-ofZ}
+use Rattle.formula.proofs.Cases.{true-false}
 use Rattle.monitor.specs.declared.node.MonNode.{MonNode}
 use Rattle.monitor.specs.declared.node.MonNode.the-variants.{RangeCheck, DelayedCheck, Obligation, And as AndNode, Or as OrNode}
 use Rattle.monitor.specs.declared.node.Row.{Row}
@@ -19,10 +20,9 @@ use Rattle.monitor.specs.Table.{rowOf}
 use Rattle.meaning.specs.Culprit.{minus-one}
 use Rattle.meaning.specs.State.{State, CheckState, JoinedState, Stepped, FromMinusOne, WellKept, CheckShaped, checkStep, joinedStep, step, culprit, failed, least, offered, pickCulprit}
 use Rattle.stepping.specs.declared.state.NodeState.{NodeState}
-use Rattle.stepping.specs.declared.check.StepOut.{StepOut}
 use Rattle.stepping.specs.declared.walk.NodeOut.{NodeOut}
 use Rattle.stepping.specs.declared.walk.Parts.{Parts}
-use Rattle.stepping.specs.declared.walk.Parts.the-variants.{Single, AnyOf, AllOf}
+use Rattle.stepping.specs.declared.walk.Parts.the-variants.{Single, Joined}
 use Rattle.stepping.specs.Memory.{Memory, get, put, Inside}
 use Rattle.stepping.specs.Check.{obligationOf, readCheck, writeCheck, GroundedCheck, Steppable, CheckStepped}
 use Rattle.stepping.specs.Walk.{NodesAt, ShapedEntry, ShapedAt, readMon, writeMon, joinedEntry, Walkable, NodeStepped, partsOf, joinedNow, Leaf, joinOf, joinedOf, Pair, PairReady, finished, Finished}
@@ -31,14 +31,11 @@ use Rattle.stepping.proofs.Memories.{get-put-same, get-put-other, put-g
 node-inj : {a b : MonNode} → Node a ≡ Node b → a ≡ b
 node-inj e = cc
 
-single-any : {B : Type 0} → Single ≡ AnyOf → B
-single-any e = let z : _≡_ {A = ℕ} 0 1 = cc in absurd (omega arith)
+single-joined : {B : Type 0} {any : Bool} → Single ≡ Joined any → B
+single-joined e = let z : _≡_ {A = ℕ} 0 1 = cc in absurd (omega arith)
 
-single-all : {B : Type 0} → Single ≡ AllOf → B
-single-all e = let z : _≡_ {A = ℕ} 0 1 = cc in absurd (omega arith)
-
-any-all : {B : Type 0} → AnyOf ≡ AllOf → B
-any-all e = let z : _≡_ {A = ℕ} 0 1 = cc in absurd (omega arith)
+joined-inj : {a b : Bool} → Joined a ≡ Joined b → a ≡ b
+joined-inj e = cc
 
 check-single : (c : Check) → partsOf (nodeOf c) ≡ Single
 check-single (range-check p r) = refl
@@ -66,29 +63,17 @@ now-all-no any l r a h = sym (ap₂ (λ (x y : Bool). joinedNow x y r) a h)
 
 -- ---- a check
 module _ (ops nums nodes : List ℕ) (nfirst : ℕ) (mem : Memory) (node : MonNode) (k s : ℕ) (d : Leaf ops nums nodes nfirst mem node k s) where
-  pub leaf-inside : Inside mem (k + 1)
-  leaf-inside = d .inside
-
-  pub leaf-steppable : (st : NodeState) → st ≡ get mem k → Steppable ops nums node st s
-  leaf-steppable st e = subst (λ (x : NodeState). Steppable ops nums node x s) (sym e) (d .steps)
-
-  pub leaf-fits : length (mem .held) < 2 ^ 64 → Fits w64 (k + 1)
-  leaf-fits h = record { fits = omega (arith, d .inside .held) }
-
-  pub leaf-stepped : (st : NodeState) (o : StepOut) (w : ℕ) (mem′ : Memory) → st ≡ get mem k → CheckStepped ops nums node st s w o → mem′ ≡ put mem k (o .state) → NodeStepped ops nums nodes nfirst mem k s w mem′ (record { now = o .now; next = k + 1 })
+  pub leaf-stepped : (now : Bool) (w : ℕ) (mem′ : Memory) → CheckStepped ops nums node mem k s w mem′ now → NodeStepped ops nums nodes nfirst mem k s w mem′ (record { now = now; next = k + 1 })
   unfolding NodesAt step readMon writeMon count
-  leaf-stepped st o w mem′ e c q = record { is = go }
+  leaf-stepped now w mem′ c = record { is = go }
     where
-      go : (m : Mon) → NodesAt ops nums nodes (nfirst + k) m → ShapedAt m mem k → Inside mem (k + count m) → (o .now ≡ step m (readMon m mem k) s w .now) × (k + 1 ≡ k + count m) × (mem′ ≡ writeMon m (step m (readMon m mem k) s w .state) mem k)
+      go : (m : Mon) → NodesAt ops nums nodes (nfirst + k) m → ShapedAt m mem k → Inside mem (k + count m) → (now ≡ step m (readMon m mem k) s w .now) × (k + 1 ≡ k + count m) × (mem′ ≡ writeMon m (step m (readMon m mem k) s w .state) mem k)
       go (check x) a b i =
           let n : nodeOf x ≡ node = node-inj (sym (a .0) ∙ d .row) in
-          let (u, v) = c .is x n (a .1) in (
-            v ∙ ap (λ (y : NodeState). checkStep x (readCheck x y) s w .now) e,
-            refl,
-            q ∙ ap (put mem k) (u ∙ ap (λ (y : NodeState). writeCheck x (checkStep x (readCheck x y) s w .state) y) e),
-          )
-      go (And m n) a b i = single-any (sym (d .single) ∙ ap partsOf (node-inj (sym (d .row) ∙ a .0)))
-      go (Or m n) a b i = single-all (sym (d .single) ∙ ap partsOf (node-inj (sym (d .row) ∙ a .0)))
+          let (u, v) = c .is x n (a .1) in
+          (v, refl, u)
+      go (And m n) a b i = single-joined (sym (d .single) ∙ ap partsOf (node-inj (sym (d .row) ∙ a .0)))
+      go (Or m n) a b i = single-joined (sym (d .single) ∙ ap partsOf (node-inj (sym (d .row) ∙ a .0)))
 
 -- ---- a joined node's entry
 module _ (st : NodeState) (now left : Bool) (a : NodeState) (right : Bool) (b : NodeState) where
@@ -179,26 +164,21 @@ module _ (ops nums nodes : List ℕ) (nfirst : ℕ) (mem : Memory) (k s : ℕ) (
               single = sym u ∙ v;
               steps = record { check = c; is = node-inj (sym (a .0) ∙ sym e ∙ q); stands = a .1; shaped = shaped-check c (get mem k) b; below = d .below };
             }
-        go (And m n) a b i = single-any (sym v ∙ u ∙ ap partsOf (node-inj (sym q ∙ e ∙ a .0)))
-        go (Or m n) a b i = single-all (sym v ∙ u ∙ ap partsOf (node-inj (sym q ∙ e ∙ a .0)))
+        go (And m n) a b i = single-joined (sym v ∙ u ∙ ap partsOf (node-inj (sym q ∙ e ∙ a .0)))
+        go (Or m n) a b i = single-joined (sym v ∙ u ∙ ap partsOf (node-inj (sym q ∙ e ∙ a .0)))
 
-    pub pair-any : p ≡ AnyOf → Pair ops nums nodes nfirst mem true k s
+    pub pair-ready : (any : Bool) → p ≡ Joined any → Pair ops nums nodes nfirst mem any k s
     unfolding NodesAt
-    pair-any v = go (d .mon) (d .stands) (d .in-nodes) (d .inside) (d .shaped)
+    pair-ready any v = go (d .mon) (d .stands) (d .in-nodes) (d .inside) (d .shaped)
       where
-        go : (m : Mon) → NodesAt ops nums nodes (nfirst + k) m → 7 * (nfirst + k + count m) ≤ length nodes → Inside mem (k + count m) → ShapedAt m mem k → Pair ops nums nodes nfirst mem true k s
-        go (check c) a n i b = single-any (sym (check-single c) ∙ sym (ap partsOf (node-inj (sym q ∙ e ∙ a .0))) ∙ sym u ∙ v)
-        go (And l r) a n i b = record { left = l; right = r; stands = a; in-nodes = n; inside = i; shaped = b; below = d .below }
-        go (Or l r) a n i b = any-all (sym v ∙ u ∙ ap partsOf (node-inj (sym q ∙ e ∙ a .0)))
-
-    pub pair-all : p ≡ AllOf → Pair ops nums nodes nfirst mem false k s
-    unfolding NodesAt
-    pair-all v = go (d .mon) (d .stands) (d .in-nodes) (d .inside) (d .shaped)
-      where
-        go : (m : Mon) → NodesAt ops nums nodes (nfirst + k) m → 7 * (nfirst + k + count m) ≤ length nodes → Inside mem (k + count m) → ShapedAt m mem k → Pair ops nums nodes nfirst mem false k s
-        go (check c) a n i b = single-all (sym (check-single c) ∙ sym (ap partsOf (node-inj (sym q ∙ e ∙ a .0))) ∙ sym u ∙ v)
-        go (And l r) a n i b = any-all (sym (sym v ∙ u ∙ ap partsOf (node-inj (sym q ∙ e ∙ a .0))))
-        go (Or l r) a n i b = record { left = l; right = r; stands = a; in-nodes = n; inside = i; shaped = b; below = d .below }
+        go : (m : Mon) → NodesAt ops nums nodes (nfirst + k) m → 7 * (nfirst + k + count m) ≤ length nodes → Inside mem (k + count m) → ShapedAt m mem k → Pair ops nums nodes nfirst mem any k s
+        go (check c) a n i b = single-joined (sym (check-single c) ∙ sym (ap partsOf (node-inj (sym q ∙ e ∙ a .0))) ∙ sym u ∙ v)
+        go (And l r) a n i b =
+            subst (λ (x : Bool). Pair ops nums nodes nfirst mem x k s) (joined-inj (sym (ap partsOf (node-inj (sym q ∙ e ∙ a .0))) ∙ sym u ∙ v))
+            (record { left = l; right = r; stands = a; in-nodes = n; inside = i; shaped = b; below = d .below })
+        go (Or l r) a n i b =
+            subst (λ (x : Bool). Pair ops nums nodes nfirst mem x k s) (joined-inj (sym (ap partsOf (node-inj (sym q ∙ e ∙ a .0))) ∙ sym u ∙ v))
+            (record { left = l; right = r; stands = a; in-nodes = n; inside = i; shaped = b; below = d .below })
 
 -- ---- a pair: both kinds of joined node have the same parts
 record Split (ops nums nodes : List ℕ) (i : ℕ) (mem : Memory) (k : ℕ) (m n : Mon) : Type 0 where
@@ -349,11 +329,11 @@ module _ (ops nums nodes : List ℕ) (nfirst : ℕ) (mem : Memory) (any : Bool) 
             row v e = join-row v ops nums nodes (nfirst + k) (d .left) (d .right) (subst (λ (x : Bool). NodesAt ops nums nodes (nfirst + k) (joinOf x (d .left) (d .right))) e (d .stands))
 
             go : (any′ : Bool) → any ≡ any′ → (m : Mon) → NodesAt ops nums nodes (nfirst + k) m → ShapedAt m mem k → Inside mem (k + count m) → (b ≡ step m (readMon m mem k) s w .now) × (r .next ≡ k + count m) × (mem₃ ≡ writeMon m (step m (readMon m mem k) s w .state) mem k)
-            go true e (check x) a h i = single-any (sym (check-single x) ∙ ap partsOf (node-inj (sym (a .0) ∙ row true e)))
+            go true e (check x) a h i = single-joined (sym (check-single x) ∙ ap partsOf (node-inj (sym (a .0) ∙ row true e)))
             go true e (And m n) a h i =
                 subst (λ (v : Bool). NodesAt ops nums nodes (nfirst + k) (joinOf v m n) → ShapedAt (joinOf v m n) mem k → Inside mem (k + count (joinOf v m n)) → (b ≡ step (joinOf v m n) (readMon (joinOf v m n) mem k) s w .now) × (r .next ≡ k + count (joinOf v m n)) × (mem₃ ≡ writeMon (joinOf v m n) (step (joinOf v m n) (readMon (joinOf v m n) mem k) s w .state) mem k)) e (joined-is m n) a h i
-            go true e (Or m n) a h i = any-all (ap partsOf (node-inj (sym (row true e) ∙ a .0)))
-            go false e (check x) a h i = single-all (sym (check-single x) ∙ ap partsOf (node-inj (sym (a .0) ∙ row false e)))
-            go false e (And m n) a h i = any-all (ap partsOf (node-inj (sym (a .0) ∙ row false e)))
+            go true e (Or m n) a h i = true-false refl (joined-inj (ap partsOf (node-inj (sym (row true e) ∙ a .0))))
+            go false e (check x) a h i = single-joined (sym (check-single x) ∙ ap partsOf (node-inj (sym (a .0) ∙ row false e)))
+            go false e (And m n) a h i = true-false refl (joined-inj (ap partsOf (node-inj (sym (a .0) ∙ row false e))))
             go false e (Or m n) a h i =
                 subst (λ (v : Bool). NodesAt ops nums nodes (nfirst + k) (joinOf v m n) → ShapedAt (joinOf v m n) mem k → Inside mem (k + count (joinOf v m n)) → (b ≡ step (joinOf v m n) (readMon (joinOf v m n) mem k) s w .now) × (r .next ≡ k + count (joinOf v m n)) × (mem₃ ≡ writeMon (joinOf v m n) (step (joinOf v m n) (readMon (joinOf v m n) mem k) s w .state) mem k)) e (joined-is m n) a h i

@@ -1,5 +1,5 @@
 -- A check's step on a node's entry: the entry read as the check's state, the step of the theory, and the entry that holds it afterwards.
-use mathlib.Core.Bool.{Bool, true, _&&_, _||_}
+use mathlib.Core.Bool.{Bool, true, false, _&&_, _||_}
 use mathlib.Core.Bool as bool
 use mathlib.Core.List.{List}
 use mathlib.Core.Path.{_≡_}
@@ -16,9 +16,9 @@ use Rattle.monitor.specs.declared.node.MonNode.{MonNode}
 use Rattle.monitor.specs.Mon.{Signal, always-true, at, Check, range-check, delayed-check, obligation, exprOf, nodeOf}
 use Rattle.monitor.specs.Range.{containsOf}
 use Rattle.meaning.specs.Alarm.{truth}
-use Rattle.meaning.specs.State.{CheckState, ObligationState, Stepped, CheckShaped, checkStep}
+use Rattle.meaning.specs.State.{CheckState, ObligationState, Stepped, CheckShaped, checkStep, opened, ticked, atOnce}
 use Rattle.stepping.specs.declared.state.NodeState.{NodeState}
-use Rattle.stepping.specs.declared.check.StepOut.{StepOut}
+use Rattle.stepping.specs.Memory.{Memory, get, put, Inside}
 
 -- ---- entries and states
 abbrev pub obligationOf : NodeState → ObligationState
@@ -74,8 +74,13 @@ pub record Steppable (ops nums : List ℕ) (node : MonNode) (st : NodeState) (s 
   pub shaped : CheckShaped check (readCheck check st)
   pub below : s < 9223372036854775808
 
-pub record CheckStepped (ops nums : List ℕ) (node : MonNode) (st : NodeState) (s w : ℕ) (r : StepOut) : Type 0 where
-  pub is : (c : Check) → nodeOf c ≡ node → GroundedCheck ops nums c → (r .state ≡ writeCheck c (checkStep c (readCheck c st) s w .state) st) × (r .now ≡ checkStep c (readCheck c st) s w .now)
+-- a check at node k
+pub record Checkable (ops nums : List ℕ) (node : MonNode) (mem : Memory) (k s : ℕ) : Type 0 where
+  pub inside : Inside mem (k + 1)
+  pub steps : Steppable ops nums node (get mem k) s
+
+pub record CheckStepped (ops nums : List ℕ) (node : MonNode) (mem : Memory) (k s w : ℕ) (mem′ : Memory) (now : Bool) : Type 0 where
+  pub is : (c : Check) → nodeOf c ≡ node → GroundedCheck ops nums c → (mem′ ≡ put mem k (writeCheck c (checkStep c (readCheck c (get mem k)) s w .state) (get mem k))) × (now ≡ checkStep c (readCheck c (get mem k)) s w .now)
 
 -- parts of a check's step
 pub record DelayedNow (ops nums : List ℕ) (e : SignalExpr) (r : AnchorRange) (st : NodeState) (s w : ℕ) (b : Bool) : Type 0 where
@@ -83,3 +88,32 @@ pub record DelayedNow (ops nums : List ℕ) (e : SignalExpr) (r : AnchorRange) (
 
 pub record Due (ops nums : List ℕ) (e : SignalExpr) (r : AnchorRange) (s w : ℕ) (b : Bool) : Type 0 where
   pub is : (x : Signal) → exprOf x ≡ e → Grounded ops nums x → b ≡ (containsOf r s && truth x w)
+
+-- an obligation at node k, and its parts: a window opens, one is taken from what remains, and bound 0
+pub record Openable (ops nums : List ℕ) (e : SignalExpr) (mem : Memory) (k s : ℕ) : Type 0 where
+  pub inside : Inside mem (k + 1)
+  pub names : Named ops nums e
+  pub below : s < 9223372036854775808
+
+pub record Opened (ops nums : List ℕ) (b : ℕ) (e : SignalExpr) (r : AnchorRange) (mem : Memory) (k s w : ℕ) (mem′ : Memory) (open-now : Bool) : Type 0 where
+  pub is : (x : Signal) → exprOf x ≡ e → Grounded ops nums x → (mem′ ≡ put mem k (entryOf (opened (get mem k .held) (containsOf r s && truth x w) b s (obligationOf (get mem k))))) × (open-now ≡ opened (get mem k .held) (containsOf r s && truth x w) b s (obligationOf (get mem k)) .pending)
+
+pub record Tickable (ops nums : List ℕ) (e : SignalExpr) (mem : Memory) (k : ℕ) : Type 0 where
+  pub inside : Inside mem (k + 1)
+  pub names : Named ops nums e
+  pub is-open : get mem k .held ≡ true
+  pub unfailed : get mem k .failed ≡ false
+  pub remains : 1 ≤ get mem k .remaining
+
+pub record Ticked (ops nums : List ℕ) (e : SignalExpr) (mem : Memory) (k w : ℕ) (mem′ : Memory) (now : Bool) : Type 0 where
+  pub is : (x : Signal) → exprOf x ≡ e → Grounded ops nums x → (mem′ ≡ put mem k (entryOf (ticked true (truth x w) (obligationOf (get mem k))))) × (now ≡ ticked true (truth x w) (obligationOf (get mem k)) .failed)
+
+pub record AtOnce (ops nums : List ℕ) (e e′ : SignalExpr) (mem : Memory) (k s : ℕ) : Type 0 where
+  pub inside : Inside mem (k + 1)
+  pub trigger : Named ops nums e
+  pub body : Named ops nums e′
+  pub unfailed : get mem k .failed ≡ false
+  pub below : s < 9223372036854775808
+
+pub record DoneAtOnce (ops nums : List ℕ) (e e′ : SignalExpr) (r : AnchorRange) (mem : Memory) (k s w : ℕ) (mem′ : Memory) (now : Bool) : Type 0 where
+  pub is : (x y : Signal) → exprOf x ≡ e → Grounded ops nums x → exprOf y ≡ e′ → Grounded ops nums y → (mem′ ≡ put mem k (entryOf (atOnce (containsOf r s && truth x w) (truth y w) s (obligationOf (get mem k))))) × (now ≡ atOnce (containsOf r s && truth x w) (truth y w) s (obligationOf (get mem k)) .failed)

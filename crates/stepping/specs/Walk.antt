@@ -20,7 +20,7 @@ use Rattle.meaning.specs.State.{State, Stepped, FromMinusOne, WellKept, step, l
 use Rattle.stepping.specs.declared.state.NodeState.{NodeState}
 use Rattle.stepping.specs.declared.walk.NodeOut.{NodeOut}
 use Rattle.stepping.specs.declared.walk.Parts.{Parts}
-use Rattle.stepping.specs.declared.walk.Parts.the-variants.{Single, AnyOf, AllOf}
+use Rattle.stepping.specs.declared.walk.Parts.the-variants.{Single, Joined}
 use Rattle.stepping.specs.Memory.{Memory, get, put, Inside}
 use Rattle.stepping.specs.Check.{obligationOf, readCheck, writeCheck, GroundedCheck, Steppable}
 
@@ -86,8 +86,8 @@ abbrev pub partsOf : MonNode → Parts
 partsOf (RangeCheck s r) = Single
 partsOf (DelayedCheck s t r) = Single
 partsOf (Obligation b s t r) = Single
-partsOf AndNode = AnyOf
-partsOf OrNode = AllOf
+partsOf AndNode = Joined true
+partsOf OrNode = Joined false
 
 abbrev pub joinedNow : Bool → Bool → Bool → Bool
 joinedNow true l r = l || r

@@ -1,20 +1,13 @@
-// One step of a check, on its entry by value.
+// One step of a check, on its entry in the monitor's memory: no more is read or stored than the check's form needs.
 use crate::state::NodeState;
-use formula::signal::value_at;
+use crate::state::load;
+use formula::signal::holds_at;
 use monitor::node::MonNode;
 use monitor::node::SignalExpr;
 use monitor::range::AnchorRange;
 ghost use mathlib.Core.Path.{_≡_};
-ghost use mathlib.Core.Bool.{Bool, true, false};
-ghost use Prim.Native.Nat.{_≤_, _<_};
-ghost use Rattle.meaning.specs.State.{obligationStep, opened, ticked, WellKept};
-ghost use Rattle.stepping.specs.Check.{obligationOf, entryOf, Named, Says, Steppable, CheckStepped, DelayedNow, Due};
-
-// An entry after a step, and whether its node is failing now.
-pub struct StepOut {
-    pub state: NodeState,
-    pub now: bool,
-}
+ghost use Rattle.stepping.specs.Memory.{Memory};
+ghost use Rattle.stepping.specs.Check.{Named, Says, Steppable, Checkable, CheckStepped, DelayedNow, Due, Openable, Opened, Tickable, Ticked, AtOnce, DoneAtOnce};
 
 // The truth of a signal.
 fn truth_of(ops: &[u8], nums: &[u64], e: SignalExpr, w: u64) -> bool
@@ -24,8 +17,7 @@ fn truth_of(ops: &[u8], nums: &[u64], e: SignalExpr, w: u64) -> bool
     let SignalExpr::At(p) = e else {
         return true;
     };
-    let v = value_at(ops, nums, p, w);
-    v.value
+    holds_at(ops, nums, p, w)
 }
 
 fn step_range(
@@ -33,34 +25,25 @@ fn step_range(
     nums: &[u64],
     expr: SignalExpr,
     range: AnchorRange,
-    st: NodeState,
+    held: &mut [bool],
+    remaining: &mut [u64],
+    failed: &mut [bool],
+    culprits: &mut [i64],
+    k: usize,
     s: u64,
     w: u64,
-) -> StepOut
-    requires { ⌜ Steppable (now ops) (now nums) (MonNode.RangeCheck expr range) st s ⌝ }
-    ensures { λ r. ⌜ CheckStepped (now (ops .entry)) (now (nums .entry)) (MonNode.RangeCheck expr range) st s w r ⌝ }
+) -> bool
+    requires { ⌜ Checkable (now ops) (now nums) (MonNode.RangeCheck expr range) (record { held = now held; remaining = now remaining; failed = now failed; culprits = now culprits }) k s ⌝ }
+    ensures { λ r. ⌜ CheckStepped (now (ops .entry)) (now (nums .entry)) (MonNode.RangeCheck expr range) (record { held = now (held .entry); remaining = now (remaining .entry); failed = now (failed .entry); culprits = now (culprits .entry) }) k s w (record { held = now (held .exit); remaining = now (remaining .exit); failed = now (failed .exit); culprits = now (culprits .exit) }) r ⌝ }
 {
     if range.contains(s) {
         if truth_of(ops, nums, expr, w) {
-            return StepOut {
-                state: st,
-                now: false,
-            };
+            return false;
         }
-        return StepOut {
-            state: NodeState {
-                held: st.held,
-                remaining: st.remaining,
-                failed: true,
-                culprit: st.culprit,
-            },
-            now: true,
-        };
+        failed[k] = true;
+        return true;
     }
-    StepOut {
-        state: st,
-        now: false,
-    }
+    false
 }
 
 // Whether a delayed check is failing now: it has failed, or its consequent is missing.
@@ -97,93 +80,23 @@ fn step_delayed(
     antecedent: SignalExpr,
     consequent: SignalExpr,
     range: AnchorRange,
-    st: NodeState,
+    held: &mut [bool],
+    remaining: &mut [u64],
+    failed: &mut [bool],
+    culprits: &mut [i64],
+    k: usize,
     s: u64,
     w: u64,
-) -> StepOut
-    requires { ⌜ Steppable (now ops) (now nums) (MonNode.DelayedCheck antecedent consequent range) st s ⌝ }
-    ensures { λ r. ⌜ CheckStepped (now (ops .entry)) (now (nums .entry)) (MonNode.DelayedCheck antecedent consequent range) st s w r ⌝ }
+) -> bool
+    requires { ⌜ Checkable (now ops) (now nums) (MonNode.DelayedCheck antecedent consequent range) (record { held = now held; remaining = now remaining; failed = now failed; culprits = now culprits }) k s ⌝ }
+    ensures { λ r. ⌜ CheckStepped (now (ops .entry)) (now (nums .entry)) (MonNode.DelayedCheck antecedent consequent range) (record { held = now (held .entry); remaining = now (remaining .entry); failed = now (failed .entry); culprits = now (culprits .entry) }) k s w (record { held = now (held .exit); remaining = now (remaining .exit); failed = now (failed .exit); culprits = now (culprits .exit) }) r ⌝ }
 {
+    let st = load(held, remaining, failed, culprits, k);
     let failing = delayed_now(ops, nums, antecedent, consequent, range, st, s, w);
-    let held = truth_of(ops, nums, antecedent, w);
-    StepOut {
-        state: NodeState {
-            held,
-            remaining: st.remaining,
-            failed: failing,
-            culprit: st.culprit,
-        },
-        now: failing,
-    }
-}
-
-// A window opens at a trigger when none is open.
-fn open_window(bound: u64, s: u64, due: bool, st: NodeState) -> NodeState
-    requires { ⌜ s < 9223372036854775808 ⌝ }
-    ensures { λ r. ⌜ r ≡ entryOf (opened (st .held) due bound s (obligationOf st)) ⌝ }
-{
-    if st.held {
-        return st;
-    }
-    if due {
-        return NodeState {
-            held: true,
-            remaining: bound,
-            failed: st.failed,
-            culprit: s as i64,
-        };
-    }
-    st
-}
-
-// An open window is closed by its body; without it one is taken from what remains, and at zero it has failed.
-fn tick(body: bool, st: NodeState) -> NodeState
-    requires { ⌜ (st .held ≡ true → 1 ≤ st .remaining) ⌝ }
-    ensures { λ r. ⌜ r ≡ entryOf (ticked (st .held) body (obligationOf st)) ⌝ }
-{
-    if st.held {
-        if body {
-            return NodeState {
-                held: false,
-                remaining: st.remaining,
-                failed: st.failed,
-                culprit: st.culprit,
-            };
-        }
-        let left = st.remaining - 1;
-        return NodeState {
-            held: true,
-            remaining: left,
-            failed: left == 0,
-            culprit: st.culprit,
-        };
-    }
-    st
-}
-
-// One step of an obligation; `due`: its trigger holds at a step of its range.
-fn obligation_step(bound: u64, s: u64, due: bool, body: bool, st: NodeState) -> NodeState
-    requires { ⌜ (s < 9223372036854775808) × WellKept bound (obligationOf st) ⌝ }
-    ensures { λ r. ⌜ r ≡ entryOf (obligationStep bound s due body (obligationOf st)) ⌝ }
-{
-    if st.failed {
-        return st;
-    }
-    if bound == 0 {
-        if due {
-            if body {
-                return st;
-            }
-            return NodeState {
-                held: st.held,
-                remaining: st.remaining,
-                failed: true,
-                culprit: s as i64,
-            };
-        }
-        return st;
-    }
-    tick(body, open_window(bound, s, due, st))
+    let remembered = truth_of(ops, nums, antecedent, w);
+    held[k] = remembered;
+    failed[k] = failing;
+    failing
 }
 
 // Whether an obligation's trigger holds at a step of its range.
@@ -197,6 +110,91 @@ fn is_due(ops: &[u8], nums: &[u64], trigger: SignalExpr, range: AnchorRange, s: 
     false
 }
 
+// A window opens at a trigger when none is open; the answer is whether one is open now.
+fn open_window(
+    ops: &[u8],
+    nums: &[u64],
+    bound: u64,
+    trigger: SignalExpr,
+    range: AnchorRange,
+    held: &mut [bool],
+    remaining: &mut [u64],
+    failed: &mut [bool],
+    culprits: &mut [i64],
+    k: usize,
+    s: u64,
+    w: u64,
+) -> bool
+    requires { ⌜ Openable (now ops) (now nums) trigger (record { held = now held; remaining = now remaining; failed = now failed; culprits = now culprits }) k s ⌝ }
+    ensures { λ r. ⌜ Opened (now (ops .entry)) (now (nums .entry)) bound trigger range (record { held = now (held .entry); remaining = now (remaining .entry); failed = now (failed .entry); culprits = now (culprits .entry) }) k s w (record { held = now (held .exit); remaining = now (remaining .exit); failed = now (failed .exit); culprits = now (culprits .exit) }) r ⌝ }
+{
+    if held[k] {
+        return true;
+    }
+    if is_due(ops, nums, trigger, range, s, w) {
+        held[k] = true;
+        remaining[k] = bound;
+        culprits[k] = s as i64;
+        return true;
+    }
+    false
+}
+
+// An open window is closed by its body; without it one is taken from what remains, and at zero it has failed.
+fn tick(
+    ops: &[u8],
+    nums: &[u64],
+    body: SignalExpr,
+    held: &mut [bool],
+    remaining: &mut [u64],
+    failed: &mut [bool],
+    culprits: &mut [i64],
+    k: usize,
+    w: u64,
+) -> bool
+    requires { ⌜ Tickable (now ops) (now nums) body (record { held = now held; remaining = now remaining; failed = now failed; culprits = now culprits }) k ⌝ }
+    ensures { λ r. ⌜ Ticked (now (ops .entry)) (now (nums .entry)) body (record { held = now (held .entry); remaining = now (remaining .entry); failed = now (failed .entry); culprits = now (culprits .entry) }) k w (record { held = now (held .exit); remaining = now (remaining .exit); failed = now (failed .exit); culprits = now (culprits .exit) }) r ⌝ }
+{
+    if truth_of(ops, nums, body, w) {
+        held[k] = false;
+        return false;
+    }
+    let left = remaining[k] - 1;
+    let spent = left == 0;
+    remaining[k] = left;
+    failed[k] = spent;
+    spent
+}
+
+// Bound 0: the body has to hold at the trigger's own step.
+fn step_at_once(
+    ops: &[u8],
+    nums: &[u64],
+    trigger: SignalExpr,
+    body: SignalExpr,
+    range: AnchorRange,
+    held: &mut [bool],
+    remaining: &mut [u64],
+    failed: &mut [bool],
+    culprits: &mut [i64],
+    k: usize,
+    s: u64,
+    w: u64,
+) -> bool
+    requires { ⌜ AtOnce (now ops) (now nums) trigger body (record { held = now held; remaining = now remaining; failed = now failed; culprits = now culprits }) k s ⌝ }
+    ensures { λ r. ⌜ DoneAtOnce (now (ops .entry)) (now (nums .entry)) trigger body range (record { held = now (held .entry); remaining = now (remaining .entry); failed = now (failed .entry); culprits = now (culprits .entry) }) k s w (record { held = now (held .exit); remaining = now (remaining .exit); failed = now (failed .exit); culprits = now (culprits .exit) }) r ⌝ }
+{
+    if is_due(ops, nums, trigger, range, s, w) {
+        if truth_of(ops, nums, body, w) {
+            return false;
+        }
+        failed[k] = true;
+        culprits[k] = s as i64;
+        return true;
+    }
+    false
+}
+
 fn step_obligation(
     ops: &[u8],
     nums: &[u64],
@@ -204,37 +202,106 @@ fn step_obligation(
     trigger: SignalExpr,
     body: SignalExpr,
     range: AnchorRange,
-    st: NodeState,
+    held: &mut [bool],
+    remaining: &mut [u64],
+    failed: &mut [bool],
+    culprits: &mut [i64],
+    k: usize,
     s: u64,
     w: u64,
-) -> StepOut
-    requires { ⌜ Steppable (now ops) (now nums) (MonNode.Obligation bound trigger body range) st s ⌝ }
-    ensures { λ r. ⌜ CheckStepped (now (ops .entry)) (now (nums .entry)) (MonNode.Obligation bound trigger body range) st s w r ⌝ }
+) -> bool
+    requires { ⌜ Checkable (now ops) (now nums) (MonNode.Obligation bound trigger body range) (record { held = now held; remaining = now remaining; failed = now failed; culprits = now culprits }) k s ⌝ }
+    ensures { λ r. ⌜ CheckStepped (now (ops .entry)) (now (nums .entry)) (MonNode.Obligation bound trigger body range) (record { held = now (held .entry); remaining = now (remaining .entry); failed = now (failed .entry); culprits = now (culprits .entry) }) k s w (record { held = now (held .exit); remaining = now (remaining .exit); failed = now (failed .exit); culprits = now (culprits .exit) }) r ⌝ }
 {
-    let due = is_due(ops, nums, trigger, range, s, w);
-    let answered = truth_of(ops, nums, body, w);
-    let next = obligation_step(bound, s, due, answered, st);
-    StepOut {
-        state: next,
-        now: next.failed,
+    if failed[k] {
+        return true;
     }
+    if bound == 0 {
+        return step_at_once(
+            ops,
+            nums,
+            trigger,
+            body,
+            range,
+            held,
+            remaining,
+            failed,
+            culprits,
+            k,
+            s,
+            w,
+        );
+    }
+    if open_window(
+        ops,
+        nums,
+        bound,
+        trigger,
+        range,
+        held,
+        remaining,
+        failed,
+        culprits,
+        k,
+        s,
+        w,
+    ) {
+        return tick(ops, nums, body, held, remaining, failed, culprits, k, w);
+    }
+    false
 }
 
-// One step of any check.
-pub fn step_check(ops: &[u8], nums: &[u64], node: MonNode, st: NodeState, s: u64, w: u64) -> StepOut
-    requires { ⌜ Steppable (now ops) (now nums) node st s ⌝ }
-    ensures { λ r. ⌜ CheckStepped (now (ops .entry)) (now (nums .entry)) node st s w r ⌝ }
+// One step of any check; the answer is whether it is failing now.
+pub fn step_check(
+    ops: &[u8],
+    nums: &[u64],
+    node: MonNode,
+    held: &mut [bool],
+    remaining: &mut [u64],
+    failed: &mut [bool],
+    culprits: &mut [i64],
+    k: usize,
+    s: u64,
+    w: u64,
+) -> bool
+    requires { ⌜ Checkable (now ops) (now nums) node (record { held = now held; remaining = now remaining; failed = now failed; culprits = now culprits }) k s ⌝ }
+    ensures { λ r. ⌜ CheckStepped (now (ops .entry)) (now (nums .entry)) node (record { held = now (held .entry); remaining = now (remaining .entry); failed = now (failed .entry); culprits = now (culprits .entry) }) k s w (record { held = now (held .exit); remaining = now (remaining .exit); failed = now (failed .exit); culprits = now (culprits .exit) }) r ⌝ }
 {
     match node {
         MonNode::RangeCheck { expr, range } => {
-            return step_range(ops, nums, expr, range, st, s, w);
+            return step_range(
+                ops,
+                nums,
+                expr,
+                range,
+                held,
+                remaining,
+                failed,
+                culprits,
+                k,
+                s,
+                w,
+            );
         }
         MonNode::DelayedCheck {
             antecedent,
             consequent,
             range,
         } => {
-            return step_delayed(ops, nums, antecedent, consequent, range, st, s, w);
+            return step_delayed(
+                ops,
+                nums,
+                antecedent,
+                consequent,
+                range,
+                held,
+                remaining,
+                failed,
+                culprits,
+                k,
+                s,
+                w,
+            );
         }
         MonNode::Obligation {
             bound,
@@ -242,19 +309,27 @@ pub fn step_check(ops: &[u8], nums: &[u64], node: MonNode, st: NodeState, s: u64
             body,
             range,
         } => {
-            return step_obligation(ops, nums, bound, trigger, body, range, st, s, w);
+            return step_obligation(
+                ops,
+                nums,
+                bound,
+                trigger,
+                body,
+                range,
+                held,
+                remaining,
+                failed,
+                culprits,
+                k,
+                s,
+                w,
+            );
         }
         MonNode::And => {
-            return StepOut {
-                state: st,
-                now: false,
-            };
+            return false;
         }
         MonNode::Or => {
-            return StepOut {
-                state: st,
-                now: false,
-            };
+            return false;
         }
     }
 }

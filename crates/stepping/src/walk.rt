@@ -22,11 +22,10 @@ pub struct NodeOut {
     pub next: usize,
 }
 
-// How a node's parts are joined.
+// How a node's parts are joined: not at all; or it fails with any of them, or with all of them.
 pub enum Parts {
     Single,
-    AnyOf,
-    AllOf,
+    Joined(bool),
 }
 
 fn parts_of(node: MonNode) -> Parts
@@ -45,8 +44,8 @@ fn parts_of(node: MonNode) -> Parts
             body: _,
             range: _,
         } => Parts::Single,
-        MonNode::And => Parts::AnyOf,
-        MonNode::Or => Parts::AllOf,
+        MonNode::And => Parts::Joined(true),
+        MonNode::Or => Parts::Joined(false),
     }
 }
 
@@ -83,14 +82,8 @@ fn step_leaf(
     requires { ⌜ Leaf (now ops) (now nums) (now nodes) nfirst (record { held = now held; remaining = now remaining; failed = now failed; culprits = now culprits }) node k s ⌝ }
     ensures { λ r. ⌜ NodeStepped (now (ops .entry)) (now (nums .entry)) (now (nodes .entry)) nfirst (record { held = now (held .entry); remaining = now (remaining .entry); failed = now (failed .entry); culprits = now (culprits .entry) }) k s w (record { held = now (held .exit); remaining = now (remaining .exit); failed = now (failed .exit); culprits = now (culprits .exit) }) r ⌝ }
 {
-    let st = load(held, remaining, failed, culprits, k);
-    let out = step_check(ops, nums, node, st, s, w);
-    let next = out.state;
-    store(held, remaining, failed, culprits, k, next);
-    NodeOut {
-        now: out.now,
-        next: k + 1,
-    }
+    let now = step_check(ops, nums, node, held, remaining, failed, culprits, k, s, w);
+    NodeOut { now, next: k + 1 }
 }
 
 // A joined node's entry after its parts have stepped: at its first alarm it fails, and takes the least culprit of the parts that are failing now.
@@ -226,55 +219,34 @@ pub fn step_node(
             next: k + 1,
         };
     };
-    let parts = parts_of(node);
-    match parts {
-        Parts::Single => {
-            return step_leaf(
-                ops,
-                nums,
-                nodes,
-                nfirst,
-                held,
-                remaining,
-                failed,
-                culprits,
-                node,
-                k,
-                s,
-                w,
-            );
-        }
-        Parts::AnyOf => {
-            return step_pair(
-                ops,
-                nums,
-                nodes,
-                nfirst,
-                held,
-                remaining,
-                failed,
-                culprits,
-                true,
-                k,
-                s,
-                w,
-            );
-        }
-        Parts::AllOf => {
-            return step_pair(
-                ops,
-                nums,
-                nodes,
-                nfirst,
-                held,
-                remaining,
-                failed,
-                culprits,
-                false,
-                k,
-                s,
-                w,
-            );
-        }
-    }
+    let Parts::Joined(any) = parts_of(node) else {
+        return step_leaf(
+            ops,
+            nums,
+            nodes,
+            nfirst,
+            held,
+            remaining,
+            failed,
+            culprits,
+            node,
+            k,
+            s,
+            w,
+        );
+    };
+    step_pair(
+        ops,
+        nums,
+        nodes,
+        nfirst,
+        held,
+        remaining,
+        failed,
+        culprits,
+        any,
+        k,
+        s,
+        w,
+    )
 }
