@@ -4,7 +4,7 @@ use mathlib.Core.Bool.{Bool, true, false, _&&_, _||_}
 use mathlib.Core.Bool as bool
 use mathlib.Core.List.{List}
 use mathlib.Core.Logic.{⊎-elim}
-use Prim.Native.Nat.{ℕ, zero, suc, _+_, _-_, _≤_, _<_}
+use Prim.Native.Nat.{ℕ, zero, suc, _+_, _-_, _*_, _≤_, _<_}
 use native.Mathlib.Omega.{arith}
 use lib.Dec.{ltb}
 use borrow.Author.Tests.{lt-ltb, le-ltb, leb-true}
@@ -14,7 +14,7 @@ use Rattle.formula.specs.Spells.{Spells}
 use Rattle.formula.specs.Formula.{Atom, Unary, Binary, Formula, Node, node, signal, not, next, always, eventually, always-for, within, and, or, implies, until}
 use Rattle.formula.specs.Table.{nodeAt, inWord, Placed}
 use Rattle.formula.specs.Pure.{pure, value, joined, bit}
-use Rattle.formula.specs.Signal.{endIf, Purely, Signalled, Valued, Held}
+use Rattle.formula.specs.Signal.{endIf, Purely, Signalled, Valued}
 use Rattle.formula.specs.declared.table.Walk.{Walk}
 use Rattle.formula.specs.declared.table.Walk.the-variants.{Upto, Stuck}
 use Rattle.formula.specs.declared.signal.Value.{Value}
@@ -227,7 +227,7 @@ module _ (ops nums : List ℕ) (i : ℕ) (g : Signalled ops nums i) where
   pub sig-next : 3 ≤ getD ops i 0 → Signalled ops nums (i + 1)
   sig-next h = ⊎-elim (λ k. sig-not h k) (λ k. sig-left k) (below-or (getD ops i 0) 9)
 
-  pub sig-falls : (t : ℕ) → length ops - i ≡ t → length ops - (i + 1) < t
+  pub sig-falls : (t : ℕ) → 3 * (length ops - i) ≡ t → 3 * (length ops - (i + 1)) + 2 < t
   sig-falls t h = omega (arith, sig-in-ops)
 
   -- past `not` the other pure words have two operands
@@ -255,7 +255,7 @@ module _ (ops nums : List ℕ) (i : ℕ) (g : Signalled ops nums i) where
           in-word = both-true (all inWord l) (all inWord r) (sym (ap (all inWord) e) ∙ g .in-word) .1;
         }
 
-    pub sig-falls-right : (t : ℕ) → length ops - i ≡ t → length ops - v .end < t
+    pub sig-falls-right : (t : ℕ) → 3 * (length ops - i) ≡ t → 3 * (length ops - v .end) + 2 < t
     sig-falls-right t q =
         let s = sig-left (two-words h) in
         omega (arith, sig-in-ops, x .is (s .place .formula) (s .place .spells) .1)
@@ -288,9 +288,3 @@ module _ (ops nums : List ℕ) (i : ℕ) (g : Signalled ops nums i) where
         let (a, e, n) = leaf-there ops nums i f s h in
         (q ∙ sym (ap (λ (c : Formula). value c w) e ∙ ap (λ (m : ℕ). bit m w) n), ap (λ (m : ℕ). i + m) (sym (ap (λ (c : Formula). size c) e)));
   }
-
-  pub held-leaf : (w : ℕ) (b : Bool) → b ≡ bit (getD nums i 0) w → getD ops i 0 < 3 → Held ops nums i w b
-  held-leaf w b q h = record { is = λ f s. valued-leaf w b q h .is f s .0 }
-
-  pub held-value : (w : ℕ) (v : Value) → Valued ops nums i w v → Held ops nums i w (v .value)
-  held-value w v x = record { is = λ f s. x .is f s .0 }

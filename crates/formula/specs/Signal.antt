@@ -29,7 +29,3 @@ pub record Purely (ops nums : List ℕ) (i : ℕ) (r : Walk) : Type 0 where
 -- what evaluating the pure formula at i answers: its value, and where it ends
 pub record Valued (ops nums : List ℕ) (i w : ℕ) (v : Value) : Type 0 where
   pub is : (f : Formula) → Spells (nodeAt ops nums) i f → (v .value ≡ value f w) × (v .end ≡ i + size f)
-
--- what it answers where its value alone is asked for
-pub record Held (ops nums : List ℕ) (i w : ℕ) (r : Bool) : Type 0 where
-  pub is : (f : Formula) → Spells (nodeAt ops nums) i f → r ≡ value f w

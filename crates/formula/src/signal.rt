@@ -2,10 +2,11 @@
 use crate::table::Walk;
 ghost use mathlib.Core.Path.{_≡_};
 ghost use mathlib.Core.Bool.{Bool, _&&_, _||_, not};
-ghost use Prim.Native.Nat.{_<_};
+ghost use Prim.Native.Nat.{_≤_, _<_};
+ghost use lib.ListN.{getD};
 ghost use Rattle.formula.specs.Table.{Placed};
 ghost use Rattle.formula.specs.Pure.{bit, joined};
-ghost use Rattle.formula.specs.Signal.{Purely, Signalled, Valued, Held};
+ghost use Rattle.formula.specs.Signal.{Purely, Signalled, Valued};
 
 // Where the formula at i ends, if it is pure.
 pub fn pure_at(ops: &[u8], nums: &[u64], i: usize) -> Walk
@@ -68,18 +69,34 @@ fn join(op: u8, left: bool, right: bool) -> bool
     true
 }
 
-// The value of the pure formula at i under a word of truths.
+// The value of the pure formula at i under a word of truths: an atom is read in place.
 pub fn value_at(ops: &[u8], nums: &[u64], i: usize, word: u64) -> Value
     requires { ⌜ Signalled (now ops) (now nums) i ⌝ }
     ensures { λ v. ⌜ Valued (now (ops .entry)) (now (nums .entry)) i word v ⌝ }
 {
-    let op = ops[i];
-    if op < 3 {
+    if ops[i] < 3 {
         return Value {
             value: truth(word, nums[i]),
             end: i + 1,
         };
     }
+    apart_at(ops, nums, i, word)
+}
+
+// A call of its own, so that no slice is copied where an atom is read.
+fn apart_at(ops: &[u8], nums: &[u64], i: usize, word: u64) -> Value
+    requires { ⌜ Signalled (now ops) (now nums) i × (3 ≤ getD (now ops) i 0) ⌝ }
+    ensures { λ v. ⌜ Valued (now (ops .entry)) (now (nums .entry)) i word v ⌝ }
+{
+    node_at(ops, nums, i, word)
+}
+
+// The value of a pure formula that has operands.
+fn node_at(ops: &[u8], nums: &[u64], i: usize, word: u64) -> Value
+    requires { ⌜ Signalled (now ops) (now nums) i × (3 ≤ getD (now ops) i 0) ⌝ }
+    ensures { λ v. ⌜ Valued (now (ops .entry)) (now (nums .entry)) i word v ⌝ }
+{
+    let op = ops[i];
     let left = value_at(ops, nums, i + 1, word);
     if op < 4 {
         return Value {
@@ -92,16 +109,4 @@ pub fn value_at(ops: &[u8], nums: &[u64], i: usize, word: u64) -> Value
         value: join(op, left.value, right.value),
         end: right.end,
     }
-}
-
-// The value alone: an atom's is read without a walk.
-pub fn holds_at(ops: &[u8], nums: &[u64], i: usize, word: u64) -> bool
-    requires { ⌜ Signalled (now ops) (now nums) i ⌝ }
-    ensures { λ r. ⌜ Held (now (ops .entry)) (now (nums .entry)) i word r ⌝ }
-{
-    if ops[i] < 3 {
-        return truth(word, nums[i]);
-    }
-    let v = value_at(ops, nums, i, word);
-    v.value
 }

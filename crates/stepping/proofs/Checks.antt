@@ -13,7 +13,8 @@ use lib.Seq.{set-getD, set-set}
 use mir.Syntax.{w64}
 use mir.Val.{toZ}
 use mir.Facts.{toZ-pos}
-use Rattle.formula.specs.Signal.{Signalled, Held}
+use Rattle.formula.specs.Signal.{Signalled, Valued}
+use Rattle.formula.specs.declared.signal.Value.{Value}
 use Rattle.formula.specs.Formula.{Formula}
 use Rattle.monitor.specs.declared.range.AnchorRange.{AnchorRange}
 use Rattle.monitor.specs.declared.node.SignalExpr.{SignalExpr}
@@ -54,15 +55,15 @@ module _ (ops nums : List ℕ) (e : SignalExpr) (w : ℕ) where
   pub signal-here : (p : ℕ) → Named ops nums e → e ≡ At p → Signalled ops nums p
   signal-here p n q = signalled (n .signal) p (n .is ∙ q) (n .stands) .2
 
-  pub says-held : (p : ℕ) (r : Bool) → e ≡ At p → Held ops nums p w r → Says ops nums e w r
+  pub says-value : (p : ℕ) (v : Value) → e ≡ At p → Valued ops nums p w v → Says ops nums e w (v .value)
   unfolding truth
-  says-held p r q k = record { is = go }
+  says-value p v q k = record { is = go }
     where
-      go : (x : Signal) → exprOf x ≡ e → Grounded ops nums x → r ≡ truth x w
+      go : (x : Signal) → exprOf x ≡ e → Grounded ops nums x → v .value ≡ truth x w
       go always-true h g = true-at (h ∙ q)
       go (at o f) h g =
           let m : o ≡ p = at-place (h ∙ q) in
-          k .is f (subst (λ (n : ℕ). Rattle.formula.specs.Spells.Spells (Rattle.formula.specs.Table.nodeAt ops nums) n f) m (g .spells))
+          k .is f (subst (λ (n : ℕ). Rattle.formula.specs.Spells.Spells (Rattle.formula.specs.Table.nodeAt ops nums) n f) m (g .spells)) .0
 
 -- ---- ranges
 module _ (ops nums : List ℕ) (e : SignalExpr) (r : AnchorRange) (s w : ℕ) (b : Bool) (h : b ≡ containsOf r s) where

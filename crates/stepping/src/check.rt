@@ -1,7 +1,7 @@
 // One step of a check, on its entry in the monitor's memory: no more is read or stored than the check's form needs.
 use crate::state::NodeState;
 use crate::state::load;
-use formula::signal::holds_at;
+use formula::signal::value_at;
 use monitor::node::MonNode;
 use monitor::node::SignalExpr;
 use monitor::range::AnchorRange;
@@ -17,7 +17,8 @@ fn truth_of(ops: &[u8], nums: &[u64], e: SignalExpr, w: u64) -> bool
     let SignalExpr::At(p) = e else {
         return true;
     };
-    holds_at(ops, nums, p, w)
+    let v = value_at(ops, nums, p, w);
+    v.value
 }
 
 fn step_range(

@@ -1,0 +1,226 @@
+use Prim.Native.Nat.{_+_, _*_, _-_}
+use lib.ListN.{length}
+use Rattle.formula.proofs.Signals.{valued-leaf, valued-not, valued-two, sig-in-ops, sig-in-nums, sig-small, sig-next, sig-falls, sig-right, sig-falls-right}
+use borrow.Author.Needs.{needs}
+use Prim.Native.Nat.{ℕ, _<_}
+use borrow.Fn.Kinds.{In}
+use borrow.Fn.PlainCycle.{Measures, is, falls, and}
+use Rattle.formula.proofs.signal.apart_at.Reads as apart-at
+use Rattle.formula.proofs.signal.apart_at.Kinds as apart-at-kinds
+use Rattle.formula.proofs.signal.+apart_at+node_at+value_at.Lts-apart_at as apart-at-lts
+use Rattle.formula.proofs.signal.node_at.Reads as node-at
+use Rattle.formula.proofs.signal.node_at.Kinds as node-at-kinds
+use Rattle.formula.proofs.signal.+apart_at+node_at+value_at.Lts-node_at as node-at-lts
+use Rattle.formula.proofs.signal.value_at.Reads as value-at
+use Rattle.formula.proofs.signal.value_at.Kinds as value-at-kinds
+use Rattle.formula.proofs.signal.+apart_at+node_at+value_at.Lts-value_at as value-at-lts
+use Rattle.formula.proofs.signal.join.Reads as join-reads
+use Rattle.formula.proofs.signal.truth.Reads as truth-reads
+use Rattle.formula.proofs.signal.+apart_at+node_at+value_at.{statement}
+use Rattle.formula.proofs.signal.+apart_at+node_at+value_at.Tie.{close}
+
+abbrev μ-apart-at : Measures 2 apart-at-kinds.ps ℕ
+μ-apart-at κs a = 3 * (length (a .0 .now) - a .1 .1 .0) + 1
+
+abbrev μ-node-at : Measures 2 node-at-kinds.ps ℕ
+μ-node-at κs a = 3 * (length (a .0 .now) - a .1 .1 .0)
+
+abbrev μ-value-at : Measures 2 value-at-kinds.ps ℕ
+μ-value-at κs a = 3 * (length (a .0 .now) - a .1 .1 .0) + 2
+
+abbrev apart-at-at : ℕ → In 2 apart-at-kinds.ps
+apart-at-at t = and 2 apart-at-kinds.ps (is 2 apart-at-kinds.ps μ-apart-at t) apart-at.Pre
+
+abbrev apart-at-below : ℕ → In 2 apart-at-kinds.ps
+apart-at-below t =
+    and 2 apart-at-kinds.ps (falls 2 apart-at-kinds.ps _<_ μ-apart-at t) apart-at.Pre
+
+abbrev node-at-at : ℕ → In 2 node-at-kinds.ps
+node-at-at t = and 2 node-at-kinds.ps (is 2 node-at-kinds.ps μ-node-at t) node-at.Pre
+
+abbrev node-at-below : ℕ → In 2 node-at-kinds.ps
+node-at-below t = and 2 node-at-kinds.ps (falls 2 node-at-kinds.ps _<_ μ-node-at t) node-at.Pre
+
+abbrev value-at-at : ℕ → In 2 value-at-kinds.ps
+value-at-at t = and 2 value-at-kinds.ps (is 2 value-at-kinds.ps μ-value-at t) value-at.Pre
+
+abbrev value-at-below : ℕ → In 2 value-at-kinds.ps
+value-at-below t =
+    and 2 value-at-kinds.ps (falls 2 value-at-kinds.ps _<_ μ-value-at t) value-at.Pre
+
+-- src/signal.rt:91:5
+apart-at-node-at-requires : (t : ℕ) → apart-at-lts.Need-node-at-requires (
+  node-at-below t,
+  node-at.Post,
+) (apart-at-at t) apart-at.Post
+apart-at-node-at-requires t c κs = search needs
+
+-- src/signal.rt:87:1
+apart-at-returns :
+    (t : ℕ) →
+    apart-at-lts.Need-returns (node-at-below t, node-at.Post) (apart-at-at t) apart-at.Post
+apart-at-returns t c = search needs
+
+-- src/signal.rt:99:14
+node-at-shared-slice-read-op : (t : ℕ) → node-at-lts.Need-shared-slice-read-op (
+  value-at-below t,
+  value-at.Post,
+  join-reads.Asked,
+  join-reads.Learnt,
+) (node-at-at t) node-at.Post
+node-at-shared-slice-read-op t c = search (needs, sig-in-ops)
+
+-- src/signal.rt:100:36
+node-at-add-value-at : (t : ℕ) → node-at-lts.Need-add-value-at (
+  value-at-below t,
+  value-at.Post,
+  join-reads.Asked,
+  join-reads.Learnt,
+) (node-at-at t) node-at.Post
+node-at-add-value-at t c = search needs
+
+-- src/signal.rt:100:9
+node-at-value-at-requires : (t : ℕ) → node-at-lts.Need-value-at-requires (
+  value-at-below t,
+  value-at.Post,
+  join-reads.Asked,
+  join-reads.Learnt,
+) (node-at-at t) node-at.Post
+node-at-value-at-requires t c κs = search (needs, sig-next, sig-falls)
+
+-- src/signal.rt:102:9
+node-at-returns : (t : ℕ) → node-at-lts.Need-returns (
+  value-at-below t,
+  value-at.Post,
+  join-reads.Asked,
+  join-reads.Learnt,
+) (node-at-at t) node-at.Post
+node-at-returns t c = search (needs, valued-not)
+
+-- src/signal.rt:107:9
+node-at-value-at-requires-2 : (t : ℕ) → node-at-lts.Need-value-at-requires-2 (
+  value-at-below t,
+  value-at.Post,
+  join-reads.Asked,
+  join-reads.Learnt,
+) (node-at-at t) node-at.Post
+node-at-value-at-requires-2 t c κs = search (needs, sig-right, sig-falls-right)
+
+-- src/signal.rt:109:16
+node-at-join-requires : (t : ℕ) → node-at-lts.Need-join-requires (
+  value-at-below t,
+  value-at.Post,
+  join-reads.Asked,
+  join-reads.Learnt,
+) (node-at-at t) node-at.Post
+node-at-join-requires t c κs = search needs
+
+-- src/signal.rt:95:1
+node-at-returns-2 : (t : ℕ) → node-at-lts.Need-returns-2 (
+  value-at-below t,
+  value-at.Post,
+  join-reads.Asked,
+  join-reads.Learnt,
+) (node-at-at t) node-at.Post
+node-at-returns-2 t c = search (needs, valued-two)
+
+-- src/signal.rt:77:8
+value-at-shared-slice-read-if1 : (t : ℕ) → value-at-lts.Need-shared-slice-read-if1 (
+  truth-reads.Asked,
+  truth-reads.Learnt,
+  apart-at-below t,
+  apart-at.Post,
+) (value-at-at t) value-at.Post
+value-at-shared-slice-read-if1 t c = search (needs, sig-in-ops)
+
+-- src/signal.rt:79:32
+value-at-mul-truth : (t : ℕ) → value-at-lts.Need-mul-truth (
+  truth-reads.Asked,
+  truth-reads.Learnt,
+  apart-at-below t,
+  apart-at.Post,
+) (value-at-at t) value-at.Post
+value-at-mul-truth t c = search needs
+
+-- src/signal.rt:79:32
+value-at-shared-slice-read-truth : (t : ℕ) → value-at-lts.Need-shared-slice-read-truth (
+  truth-reads.Asked,
+  truth-reads.Learnt,
+  apart-at-below t,
+  apart-at.Post,
+) (value-at-at t) value-at.Post
+value-at-shared-slice-read-truth t c = search (needs, sig-in-nums)
+
+-- src/signal.rt:79:20
+value-at-truth-requires : (t : ℕ) → value-at-lts.Need-truth-requires (
+  truth-reads.Asked,
+  truth-reads.Learnt,
+  apart-at-below t,
+  apart-at.Post,
+) (value-at-at t) value-at.Post
+value-at-truth-requires t c κs = search (needs, sig-small)
+
+-- src/signal.rt:80:18
+value-at-add-t12 : (t : ℕ) → value-at-lts.Need-add-t12 (
+  truth-reads.Asked,
+  truth-reads.Learnt,
+  apart-at-below t,
+  apart-at.Post,
+) (value-at-at t) value-at.Post
+value-at-add-t12 t c = search needs
+
+-- src/signal.rt:78:9
+value-at-returns : (t : ℕ) → value-at-lts.Need-returns (
+  truth-reads.Asked,
+  truth-reads.Learnt,
+  apart-at-below t,
+  apart-at.Post,
+) (value-at-at t) value-at.Post
+value-at-returns t c = search (needs, valued-leaf)
+
+-- src/signal.rt:83:5
+value-at-apart-at-requires : (t : ℕ) → value-at-lts.Need-apart-at-requires (
+  truth-reads.Asked,
+  truth-reads.Learnt,
+  apart-at-below t,
+  apart-at.Post,
+) (value-at-at t) value-at.Post
+value-at-apart-at-requires t c κs = search needs
+
+-- src/signal.rt:73:1
+value-at-returns-2 : (t : ℕ) → value-at-lts.Need-returns-2 (
+  truth-reads.Asked,
+  truth-reads.Learnt,
+  apart-at-below t,
+  apart-at.Post,
+) (value-at-at t) value-at.Post
+value-at-returns-2 t c = search needs
+
+pub +apart-at+node-at+value-at-spec : {M : Type 1} → statement M
++apart-at+node-at+value-at-spec = close μ-apart-at μ-node-at μ-value-at (λ t. apart-at-lts.spec (
+  node-at-below t,
+  node-at.Post,
+) (apart-at-at t) apart-at.Post (apart-at-node-at-requires t) (apart-at-returns t))
+    (λ t. node-at-lts.spec
+    (value-at-below t, value-at.Post, join-reads.Asked, join-reads.Learnt)
+    (node-at-at t)
+    node-at.Post
+    (node-at-shared-slice-read-op t)
+    (node-at-add-value-at t)
+    (node-at-value-at-requires t)
+    (node-at-returns t)
+    (node-at-value-at-requires-2 t)
+    (node-at-join-requires t)
+    (node-at-returns-2 t))
+    λ t. value-at-lts.spec
+    (truth-reads.Asked, truth-reads.Learnt, apart-at-below t, apart-at.Post)
+    (value-at-at t)
+    value-at.Post
+    (value-at-shared-slice-read-if1 t)
+    (value-at-mul-truth t)
+    (value-at-shared-slice-read-truth t)
+    (value-at-truth-requires t)
+    (value-at-add-t12 t)
+    (value-at-returns t)
+    (value-at-apart-at-requires t)
+    (value-at-returns-2 t)
