@@ -1,0 +1,3 @@
+-- Each answer as a number, and the calls with it.
+pub mod Numbers
+pub mod Calls
