@@ -1,0 +1,32 @@
+use Rattle.watch.proofs.Watching.{on-accepted, on-refused}
+use borrow.Author.Needs.{needs}
+use Rattle.watch.proofs.rule.on_verdict.Statement.{statement}
+use Rattle.watch.proofs.rule.on_verdict.Tie as tie
+use Rattle.watch.proofs.rule.on_verdict.Reads as reads
+use Rattle.watch.proofs.rule.on_verdict.Lts as lts
+use Rattle.watch.proofs.rule.on_accepted.Reads as on-accepted-reads
+
+-- src/rule.rt:46:27
+enum-known-verdict : tie.Need-enum-known-verdict
+enum-known-verdict c = search needs
+
+-- src/rule.rt:46:37
+on-accepted-requires : tie.Need-on-accepted-requires
+on-accepted-requires c κs = search needs
+
+-- src/rule.rt:47:26
+enum-known-verdict-2 : tie.Need-enum-known-verdict-2
+enum-known-verdict-2 c = search needs
+
+-- src/rule.rt:42:1
+returns : tie.Need-returns
+returns c = search (needs, on-accepted)
+
+-- src/rule.rt:42:1
+returns-2 : tie.Need-returns-2
+returns-2 c = search (needs, on-refused)
+
+pub on-verdict-spec : {M : Type 1} → statement M
+on-verdict-spec =
+    tie.close
+    (tie.spec enum-known-verdict on-accepted-requires enum-known-verdict-2 returns returns-2)

@@ -1,0 +1,2 @@
+-- What watching a rule of a book gives.
+pub mod Watch

@@ -1,0 +1,76 @@
+-- What watching a rule of a book gives, with every call on the monitor a call in place (crates/in_place).
+--     watched       from a monitor, over step lines: the first report with its step and culprit, or the first refused step
+--     ruleWatched   the rule is compiled, its monitor made and stepped over the step lines from a place of the text on
+use mathlib.Core.Bool.{Bool, true, false}
+use mathlib.Core.List.{List, [], _∷_}
+use Prim.Native.Nat.{ℕ}
+use lib.IntN.{ℤ, pos}
+use lib.ListN.{getD, replicate}
+use Rattle.book.specs.Book.{StepLine}
+use Rattle.reader.specs.Steps.{stepsFrom}
+use Rattle.compiler.specs.declared.Compiled.{Compiled}
+use Rattle.compiler.specs.declared.Compiled.the-variants.{Nodes, Refused as NotCompiled}
+use Rattle.compiler.specs.Compiled.{Call, compileCall}
+use Rattle.stepping.specs.declared.call.Verdict.{Verdict}
+use Rattle.stepping.specs.declared.call.Verdict.the-variants.{Accepted, Refused as NotStepped}
+use Rattle.stepping.specs.declared.fresh.Outcome.{Outcome}
+use Rattle.stepping.specs.declared.fresh.Outcome.the-variants.{Made, Refused as NotMade}
+use Rattle.stepping.specs.Call.{Tables}
+use Rattle.in_place.specs.declared.Monitor.{Monitor}
+use Rattle.in_place.specs.declared.step.Advanced.{Advanced}
+use Rattle.in_place.specs.declared.fresh.Started.{Started}
+use Rattle.in_place.specs.InPlace.{stepIn, freshIn}
+use Rattle.watch.specs.declared.rule.Watched.{Watched}
+use Rattle.watch.specs.declared.rule.Watched.the-variants.{Quiet, Report, Refused}
+
+-- the culprit of the root
+abbrev pub rootCulprit : Monitor → ℤ
+rootCulprit m = getD (m .culprits) 0 (pos 0)
+
+-- a call's answer: a report or a refusal ends the watch
+abbrev pub onVerdict : Verdict → ℕ → ℤ → Watched → Watched
+onVerdict (Accepted true) s c rest = Report s c
+onVerdict (Accepted false) s c rest = rest
+onVerdict (NotStepped n) s c rest = Refused n
+
+abbrev pub onStep : Advanced → ℕ → Watched → Watched
+onStep a s rest = onVerdict (a .verdict) s (rootCulprit (a .monitor)) rest
+
+unfoldable pub watched : Tables → Monitor → List StepLine → Watched
+watched t m [] = Quiet
+watched t m (l ∷ ls) = onStep (stepIn t m (l .number) (l .truths)) (l .number) (watched t (stepIn t m (l .number) (l .truths) .monitor) ls)
+
+-- whether a call's answer, Quiet standing for what comes after it, ends the watch
+abbrev pub isEnd : Watched → Bool
+isEnd Quiet = false
+isEnd (Report s c) = true
+isEnd (Refused n) = true
+
+-- a monitor before it is made
+abbrev pub blank : Monitor
+blank = record {
+  size = 0;
+  forms = replicate 256 0;
+  bounds = replicate 256 0;
+  held = replicate 256 false;
+  remaining = replicate 256 0;
+  failed = replicate 256 false;
+  culprits = replicate 256 (pos 0);
+}
+
+abbrev pub onOutcome : Outcome → Watched → Watched
+onOutcome (Made n) w = w
+onOutcome (NotMade n) w = Refused n
+
+-- the compiled rule that the tables hold
+unfoldable pub compiledWatched : Tables → List StepLine → Watched
+compiledWatched t ls = onOutcome (freshIn t blank .outcome) (watched t (freshIn t blank .monitor) ls)
+
+abbrev pub onCompiled : Compiled → (ℕ → Watched) → Watched
+onCompiled (Nodes n) w = w n
+onCompiled (NotCompiled n) w = Refused n
+
+unfoldable pub ruleWatched : List ℕ → ℕ → List ℕ → List ℕ → ℕ → ℕ → Watched
+ruleWatched text from ops nums first count =
+    let c : Call = compileCall ops nums first count (replicate 1792 0) in
+    onCompiled (c .answer) (λ n. compiledWatched (record { ops = ops; nums = nums; first = first; count = count; nodes = c .out; nfirst = 0; ncount = n }) (stepsFrom text from))

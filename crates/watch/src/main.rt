@@ -1,0 +1,91 @@
+// watch: reads a book on standard input, compiles its first rule, makes a monitor of it and steps it over the book's steps, each in place, and
+// prints `report STEP CULPRIT`, `no report`, or what was refused.
+mod once;
+mod rule;
+
+use crate::rule::Watched;
+use crate::rule::watch_rule;
+use libc::STDIN_FILENO;
+use libc::STDOUT_FILENO;
+use reader::read::Answer;
+use reader::read::read_book;
+
+fn put(s: &[u8]) {
+    io::write_all(STDOUT_FILENO, s);
+}
+
+// A number behind a word.
+fn show(word: &[u8], n: u64) {
+    put(word);
+    io::print_decimal(STDOUT_FILENO, n);
+}
+
+// Minus 1 where no step is to blame; no culprit of a monitor is below it.
+fn show_culprit(c: i64) {
+    if c < 0 {
+        put(b" -1");
+        return;
+    }
+    show(b" ", c as u64);
+}
+
+fn show_watched(w: Watched) {
+    match w {
+        Watched::Quiet => {
+            put(b"no report\n");
+        }
+        Watched::Report { step, culprit } => {
+            show(b"report ", step);
+            show_culprit(culprit);
+            put(b"\n");
+        }
+        Watched::Refused(n) => {
+            show(b"refused ", n);
+            put(b"\n");
+        }
+    }
+}
+
+fn watch_book(text: &[u8]) {
+    let mut labels = [0u8; 2048];
+    let mut lens = [0usize; 64];
+    let mut kinds = [0u8; 64];
+    let mut firsts = [0usize; 64];
+    let mut counts = [0usize; 64];
+    let mut ops = [0u8; 1024];
+    let mut nums = [0u64; 1024];
+    let answer = read_book(
+        text,
+        &mut labels,
+        &mut lens,
+        &mut kinds,
+        &mut firsts,
+        &mut counts,
+        &mut ops,
+        &mut nums,
+    );
+    match answer {
+        Answer::Refused { number, line } => {
+            show(b"book refused ", number as u64);
+            show(b" line ", line as u64);
+            put(b"\n");
+        }
+        Answer::Read {
+            rules,
+            nodes: _,
+            steps_at,
+        } => {
+            if rules == 0 {
+                put(b"no rule\n");
+                return;
+            }
+            show_watched(watch_rule(text, steps_at, &ops, &nums, firsts[0], counts[0]));
+        }
+    }
+}
+
+fn main() {
+    let mut text = io::large_buffer();
+    let n = io::read_full(STDIN_FILENO, &mut text);
+    watch_book(&text[..n]);
+}
