@@ -1,8 +1,11 @@
 -- Looking a word up: the code's tests against the vocabulary, one law for each return.
-use mathlib.Core.Path.{_≡_, refl, sym}
-use mathlib.Core.Bool.{Bool, true, false}
+use mathlib.Core.Path.{_≡_, refl, sym, ap, ap₂, _∙_}
+use mathlib.Core.Bool.{Bool, true, false, _&&_}
 use mathlib.Core.List.{List, [], _∷_}
 use Prim.Native.Nat.{ℕ}
+use native.Mathlib.Omega.{arith}
+use borrow.Author.Tests.{eqb-true}
+use lib.Dec.{eqb}
 use Rattle.line.specs.Text.{eqbs}
 use Rattle.line.specs.Word.{wordOf, lookup, vocabulary, fromUnary, fromBounded, fromBinary, fromLines}
 use Rattle.line.specs.declared.word.Word.{Word}
@@ -88,3 +91,25 @@ module _ (f : List ℕ) where
   pub past-fromLines : (t0 t1 : Bool) → t0 ≡ eqbs f (114 ∷ 117 ∷ 108 ∷ 101 ∷ []) → t0 ≡ false → t1 ≡ eqbs f (115 ∷ 116 ∷ 101 ∷ 112 ∷ []) → t1 ≡ false → Unknown ≡ lookup fromLines f
   unfolding wordOf lookup
   past-fromLines t0 t1 p0 q0 p1 q1 = rw (← p0, q0, ← p1, q1) refl
+
+-- ---- the word that is tried first
+unequal : {A : Type 0} → _≡_ {A = Bool} false true → A
+unequal e = let z : _≡_ {A = ℕ} 0 1 = cc in absurd (omega arith)
+
+first-same : (t u : Bool) → (t && u) ≡ true → (t ≡ true) × (u ≡ true)
+first-same true u e = (refl, e)
+first-same false u e = unequal e
+
+same-bytes : (a b : List ℕ) → eqbs a b ≡ true → a ≡ b
+unfolding eqbs
+same-bytes [] [] e = refl
+same-bytes [] (y ∷ ys) e = unequal e
+same-bytes (x ∷ xs) [] e = unequal e
+same-bytes (x ∷ xs) (y ∷ ys) e = let (p, q) = first-same (eqb x y) (eqbs xs ys) e in ap₂ _∷_ (eqb-true x y p) (same-bytes xs ys q)
+
+step-word : Step ≡ wordOf (115 ∷ 116 ∷ 101 ∷ 112 ∷ [])
+unfolding wordOf lookup eqbs
+step-word = refl
+
+pub is-step-first : (f : List ℕ) (t : Bool) → t ≡ eqbs f (115 ∷ 116 ∷ 101 ∷ 112 ∷ []) → t ≡ true → Step ≡ wordOf f
+is-step-first f t p q = step-word ∙ ap wordOf (sym (same-bytes f (115 ∷ 116 ∷ 101 ∷ 112 ∷ []) (sym p ∙ q)))

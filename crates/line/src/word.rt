@@ -13,8 +13,18 @@ pub enum Word {
     Unknown,
 }
 
-// The word that the bytes spell, or unknown where they spell none.
+// The word that the bytes spell, or unknown where they spell none. Most lines of a book are steps, so that word is tried first.
 pub fn look_up(f: &[u8]) -> Word
+    ensures { λ r. ⌜ r ≡ wordOf (now (f .entry)) ⌝ }
+{
+    if same(f, b"step") {
+        return Word::Step;
+    }
+    word_of(f)
+}
+
+// All words in the order of the list.
+fn word_of(f: &[u8]) -> Word
     ensures { λ r. ⌜ r ≡ wordOf (now (f .entry)) ⌝ }
 {
     if same(f, b"var") {

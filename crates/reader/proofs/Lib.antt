@@ -1,5 +1,6 @@
 -- Laws of reading a book into tables.
 pub mod Fills
+pub mod Silents
 pub mod Sounds
 pub mod Columns
 pub mod Runs

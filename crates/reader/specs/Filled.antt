@@ -91,6 +91,19 @@ pub record LineRoom (line : List ℕ) (t : Tables) (f : Tally) : Type 0 where
 pub record LinePut (line : List ℕ) (t : Tables) (f : Tally) (t′ : Tables) (f′ : Tally) : Type 0 where
   pub left : LeftBy (parse line) t f t′ f′
 
+-- what a line that adds nothing holds
+abbrev pub Silent : Line → Type 0
+Silent bad = Unit
+Silent (rule l k) = ⊥
+Silent wrong-rule = Unit
+Silent (node op v) = ⊥
+Silent wrong-node = Unit
+Silent (step s w) = Unit
+Silent wrong-step = Unit
+
+pub record Told (line : List ℕ) (r : Bool) : Type 0 where
+  pub is : r ≡ true → Silent (parse line)
+
 -- the book is accepted and there is room for it; it is then written
 pub record Fillable (text : List ℕ) (t : Tables) : Type 0 where
   pub book : Book

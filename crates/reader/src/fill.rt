@@ -8,7 +8,7 @@ ghost use mathlib.Core.Path.{_≡_};
 ghost use Prim.Native.Nat.{_+_, _*_, _≤_, _<_};
 ghost use lib.ListN.{length};
 ghost use Rattle.reader.specs.Tables.{Tables};
-ghost use Rattle.reader.specs.Filled.{placed, RuleRoom, RulePut, NodeRoom, NodePut, LineRoom, LinePut, Fillable, Filled};
+ghost use Rattle.reader.specs.Filled.{placed, RuleRoom, RulePut, NodeRoom, NodePut, LineRoom, LinePut, Told, Fillable, Filled};
 
 // The rules begun, the nodes written, and the nodes of the rule in hand.
 pub struct Tally {
@@ -85,8 +85,18 @@ fn put_node(
     }
 }
 
-// One line.
-fn put_line(
+// Whether the line begins with `s`: of all words only `step` does.
+fn adds_nothing(line: &[u8]) -> bool
+    ensures { λ r. ⌜ Told (now (line .entry)) r ⌝ }
+{
+    if line.len() == 0 {
+        return false;
+    }
+    line[0] == 115
+}
+
+// A line that is read.
+fn put_read(
     line: &[u8],
     labels: &mut [u8],
     lens: &mut [usize],
@@ -110,6 +120,27 @@ fn put_line(
         Line::Node { op, num } => put_node(counts, ops, nums, op, num, f),
         _ => f,
     }
+}
+
+// One line. A line that begins with `s` adds nothing, so it is not read again.
+fn put_line(
+    line: &[u8],
+    labels: &mut [u8],
+    lens: &mut [usize],
+    kinds: &mut [u8],
+    firsts: &mut [usize],
+    counts: &mut [usize],
+    ops: &mut [u8],
+    nums: &mut [u64],
+    f: Tally,
+) -> Tally
+    requires { ⌜ LineRoom (now line) (record { labels = now labels; lens = now lens; kinds = now kinds; firsts = now firsts; counts = now counts; ops = now ops; nums = now nums }) f ⌝ }
+    ensures { λ r. ⌜ LinePut (now (line .entry)) (record { labels = now (labels .entry); lens = now (lens .entry); kinds = now (kinds .entry); firsts = now (firsts .entry); counts = now (counts .entry); ops = now (ops .entry); nums = now (nums .entry) }) f (record { labels = now (labels .exit); lens = now (lens .exit); kinds = now (kinds .exit); firsts = now (firsts .exit); counts = now (counts .exit); ops = now (ops .exit); nums = now (nums .exit) }) r ⌝ }
+{
+    if adds_nothing(line) {
+        return f;
+    }
+    put_read(line, labels, lens, kinds, firsts, counts, ops, nums, f)
 }
 
 // All lines.
