@@ -2,7 +2,8 @@
  *
  * Made by `rt staticlib cavewatch_c` for x86-64 Linux. Each call is proved to answer and to leave in lent memory what its contract says, for
  * every input (crates/cavewatch_c). It keeps nothing between calls, allocates nothing, and may be called from several threads over separate
- * memory. What is stated here of C (types, pointers, overlap) is the caller's part: nothing proves it.
+ * memory. It needs 160 KB of stack for cavewatch_list_book and less for the others. What is stated here of C (types, pointers, overlap) is the
+ * caller's part: nothing proves it.
  *
  * Slices. A lent slice crosses as two arguments, a pointer and then the count of its elements. The pointer is never null, also where the count
  * is 0: pass any object's address then. The elements are initialised, aligned, and stay the caller's; they are used until the call returns and
@@ -15,7 +16,7 @@
  *
  * Answers. Every call answers one number:
  *     0             accepted: read, compiled, made, stepped without a report, listed
- *     1 to 24       refused, by docs/RULES.md's and document 01's number; lent memory is as it was
+ *     1 to 24       refused, by document 01's number; lent memory is as it was
  *     100           accepted, and the rule is newly broken (a report)
  *     101           there is no further step line
  * Further numbers of an answer go to the front of `found`, which has CAVEWATCH_FOUND or more elements and is lent to most calls. Each call says
