@@ -62,10 +62,7 @@ fn is_end(w: Watched) -> bool
 {
     match w {
         Watched::Quiet => false,
-        Watched::Report {
-            step: _,
-            culprit: _,
-        } => true,
+        Watched::Report { .. } => true,
         Watched::Refused(_) => true,
     }
 }
