@@ -1,3 +1,2 @@
--- Laws of a monitor that a local holds and lends.
-pub mod Lending
+-- Laws of a watch.
 pub mod Watching

@@ -1,14 +1,15 @@
-// watch: reads a book on standard input, compiles its first rule, makes a monitor of it and steps it over the book's steps, each in place, and
-// prints `report STEP CULPRIT`, `no report`, or what was refused.
-mod once;
+// watch: reads a book on standard input, compiles its first rule, makes a monitor of it and steps it over the book's steps, monitor and table of node structs
+// lent to each call, and prints `report STEP CULPRIT`, `no report`, or what was refused.
 mod rule;
 
 use crate::rule::Watched;
 use crate::rule::watch_rule;
 use libc::STDIN_FILENO;
 use libc::STDOUT_FILENO;
+use node_table::FormulaNode;
 use reader::read::Answer;
 use reader::read::read_book;
+ghost use Rattle.watch.specs.Watch.{Noded};
 
 fn put(s: &[u8]) {
     io::write_all(STDOUT_FILENO, s);
@@ -46,6 +47,22 @@ fn show_watched(w: Watched) {
     }
 }
 
+// The columns of a formula table as node structs.
+fn nodes_of(ops: &[u8; 1024], nums: &[u64; 1024]) -> [FormulaNode; 1024]
+    ensures { λ r. ⌜ Noded (now (ops .entry)) (now (nums .entry)) r ⌝ }
+{
+    let mut table = [FormulaNode { op: 0, num: 0 }; 1024];
+    let mut i: usize = 0;
+    while i < 1024 {
+        table[i] = FormulaNode {
+            op: ops[i],
+            num: nums[i],
+        };
+        i += 1;
+    }
+    table
+}
+
 fn watch_book(text: &[u8]) {
     let mut labels = [0u8; 2048];
     let mut lens = [0usize; 64];
@@ -79,7 +96,8 @@ fn watch_book(text: &[u8]) {
                 put(b"no rule\n");
                 return;
             }
-            show_watched(watch_rule(text, steps_at, &ops, &nums, firsts[0], counts[0]));
+            let table = nodes_of(&ops, &nums);
+            show_watched(watch_rule(text, steps_at, table, firsts[0], counts[0]));
         }
     }
 }

@@ -1,16 +1,19 @@
-// Watching one rule over the step lines of a book. Every call on its monitor is a call in place.
-use crate::once::fresh_once;
-use crate::once::step_once;
+// Watching one rule of a table of node structs over the step lines of a book. Table and monitor are lent to every call (crate `lending`).
 use compiler::Compiled;
-use compiler::compile_formula;
 use in_place::Monitor;
 use in_place::step::Advanced;
+use lending::compile_over;
+use lending::fresh_over;
+use lending::step_over;
+use node_table::FormulaNode;
 use reader::steps::StepRead;
 use reader::steps::next_step;
 use stepping::call::Verdict;
 use stepping::fresh::Outcome;
 ghost use mathlib.Core.Bool.{cond};
 ghost use mathlib.Core.Path.{_≡_};
+ghost use lib.ListN.{take};
+ghost use Rattle.node_table.specs.Node.{opsOf, numsOf};
 ghost use Rattle.reader.specs.Steps.{stepsFrom};
 ghost use Rattle.watch.specs.declared.rule.Watched.the-variants.{Quiet, Report};
 ghost use Rattle.watch.specs.Watch.{rootCulprit, onVerdict, onStep, isEnd, watched, blank, compiledWatched, ruleWatched};
@@ -72,14 +75,13 @@ fn watch_steps(
     m: Monitor,
     text: &[u8],
     from: usize,
-    ops: &[u8],
-    nums: &[u64],
+    table: [FormulaNode; 1024],
     first: usize,
     count: usize,
     nodes: &[u64],
     ncount: usize,
 ) -> Watched
-    ensures { λ r. ⌜ r ≡ watched (record { ops = now (ops .entry); nums = now (nums .entry); first = first; count = count; nodes = now (nodes .entry); nfirst = 0; ncount = ncount }) m (stepsFrom (now (text .entry)) from) ⌝ }
+    ensures { λ r. ⌜ r ≡ watched (record { ops = opsOf (take 1024 table); nums = numsOf (take 1024 table); first = first; count = count; nodes = now (nodes .entry); nfirst = 0; ncount = ncount }) m (stepsFrom (now (text .entry)) from) ⌝ }
 {
     let mut k = m;
     let mut at = from;
@@ -88,7 +90,7 @@ fn watch_steps(
         let StepRead::Step { step, truths, next } = read else {
             return Watched::Quiet;
         };
-        let a = step_once(k, ops, nums, first, count, nodes, 0, ncount, step, truths);
+        let a = step_over(k, table, first, count, nodes, 0, ncount, step, truths);
         let w = on_step(a, step);
         if is_end(w) {
             return w;
@@ -123,21 +125,20 @@ fn blank_monitor() -> Monitor
 fn watch_compiled(
     text: &[u8],
     from: usize,
-    ops: &[u8],
-    nums: &[u64],
+    table: [FormulaNode; 1024],
     first: usize,
     count: usize,
     nodes: &[u64],
     ncount: usize,
 ) -> Watched
-    ensures { λ r. ⌜ r ≡ compiledWatched (record { ops = now (ops .entry); nums = now (nums .entry); first = first; count = count; nodes = now (nodes .entry); nfirst = 0; ncount = ncount }) (stepsFrom (now (text .entry)) from) ⌝ }
+    ensures { λ r. ⌜ r ≡ compiledWatched (record { ops = opsOf (take 1024 table); nums = numsOf (take 1024 table); first = first; count = count; nodes = now (nodes .entry); nfirst = 0; ncount = ncount }) (stepsFrom (now (text .entry)) from) ⌝ }
 {
-    let started = fresh_once(blank_monitor(), ops, nums, first, count, nodes, 0, ncount);
+    let started = fresh_over(blank_monitor(), table, first, count, nodes, 0, ncount);
     let outcome = started.outcome;
     let m = started.monitor;
     match outcome {
         Outcome::Made(_) => {
-            return watch_steps(m, text, from, ops, nums, first, count, nodes, ncount);
+            return watch_steps(m, text, from, table, first, count, nodes, ncount);
         }
         Outcome::Refused(n) => {
             return Watched::Refused(n);
@@ -149,18 +150,17 @@ fn watch_compiled(
 pub fn watch_rule(
     text: &[u8],
     from: usize,
-    ops: &[u8],
-    nums: &[u64],
+    table: [FormulaNode; 1024],
     first: usize,
     count: usize,
 ) -> Watched
-    ensures { λ r. ⌜ r ≡ ruleWatched (now (text .entry)) from (now (ops .entry)) (now (nums .entry)) first count ⌝ }
+    ensures { λ r. ⌜ r ≡ ruleWatched (now (text .entry)) from (opsOf (take 1024 table)) (numsOf (take 1024 table)) first count ⌝ }
 {
     let mut nodes = [0u64; 1792];
-    let answer = compile_formula(ops, nums, first, count, &mut nodes);
+    let answer = compile_over(table, first, count, &mut nodes);
     match answer {
         Compiled::Nodes(n) => {
-            return watch_compiled(text, from, ops, nums, first, count, &nodes, n);
+            return watch_compiled(text, from, table, first, count, &nodes, n);
         }
         Compiled::Refused(n) => {
             return Watched::Refused(n);

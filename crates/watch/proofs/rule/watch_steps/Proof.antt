@@ -1,4 +1,5 @@
-use lib.ListN.{length}
+use lib.ListN.{length, take}
+use Rattle.node_table.specs.Node.{opsOf, numsOf}
 use Rattle.reader.specs.Steps.{stepsFrom}
 use Rattle.watch.proofs.Watching.{Left, left-first, left-end, fewer, left-stops, left-next}
 use borrow.Author.Needs.{needs}
@@ -6,59 +7,59 @@ use Rattle.watch.proofs.rule.watch_steps.Statement.{statement}
 use Rattle.watch.proofs.rule.watch_steps.Tie as tie
 use Rattle.watch.proofs.rule.watch_steps.Reads as reads
 use Rattle.watch.proofs.rule.watch_steps.Lts as lts
+use Rattle.lending.proofs.step_over.Reads as step-over-reads
 use Rattle.reader.proofs.steps.next_step.Reads as next-step-reads
-use Rattle.watch.proofs.once.step_once.Reads as step-once-reads
 use Rattle.watch.proofs.rule.is_end.Reads as is-end-reads
 use Rattle.watch.proofs.rule.on_step.Reads as on-step-reads
 
 abbrev Inv-loop : tie.InvT-loop
-Inv-loop text from ops nums first count nodes ncount k₀ at₀ k at =
-    Left (record { ops = ops; nums = nums; first = first; count = count; nodes = nodes; nfirst = 0; ncount = ncount }) k₀ text from k at
+Inv-loop text from table first count nodes ncount k₀ at₀ k at =
+    Left (record { ops = opsOf (take 1024 table); nums = numsOf (take 1024 table); first = first; count = count; nodes = nodes; nfirst = 0; ncount = ncount }) k₀ text from k at
 
 abbrev μ-loop : tie.MeasureT-loop
-μ-loop text from ops nums first count nodes ncount k₀ at₀ k at = length (stepsFrom text at)
+μ-loop text from table first count nodes ncount k₀ at₀ k at = length (stepsFrom text at)
 
--- src/rule.rt:80:5
+-- src/rule.rt:88:5
 loop-holds : tie.Need-loop-holds Inv-loop μ-loop
 loop-holds c = search (needs, left-first)
 
--- src/rule.rt:81:13
+-- src/rule.rt:89:13
 next-step-requires : tie.Need-next-step-requires Inv-loop μ-loop
 next-step-requires c κs = search needs
 
--- src/rule.rt:82:30
+-- src/rule.rt:90:30
 enum-known-read : tie.Need-enum-known-read Inv-loop μ-loop
 enum-known-read c = search needs
 
--- src/rule.rt:83:13
+-- src/rule.rt:91:13
 enum-told : tie.Need-enum-told Inv-loop μ-loop
 enum-told c = search needs
 
--- src/rule.rt:83:13
+-- src/rule.rt:91:13
 returns : tie.Need-returns Inv-loop μ-loop
 returns c = search (needs, left-end)
 
--- src/rule.rt:85:13
-step-once-requires : tie.Need-step-once-requires Inv-loop μ-loop
-step-once-requires c κs = search needs
+-- src/rule.rt:93:13
+step-over-requires : tie.Need-step-over-requires Inv-loop μ-loop
+step-over-requires c κs = search needs
 
--- src/rule.rt:88:13
+-- src/rule.rt:94:13
 on-step-requires : tie.Need-on-step-requires Inv-loop μ-loop
 on-step-requires c κs = search needs
 
--- src/rule.rt:89:12
+-- src/rule.rt:95:12
 is-end-requires : tie.Need-is-end-requires Inv-loop μ-loop
 is-end-requires c κs = search needs
 
--- src/rule.rt:90:13
+-- src/rule.rt:96:13
 returns-2 : tie.Need-returns-2 Inv-loop μ-loop
 returns-2 c = search (needs, left-stops)
 
--- src/rule.rt:80:5
+-- src/rule.rt:88:5
 loop-less : tie.Need-loop-less Inv-loop μ-loop
 loop-less c = search (needs, fewer)
 
--- src/rule.rt:80:5
+-- src/rule.rt:88:5
 loop-again : tie.Need-loop-again Inv-loop μ-loop
 loop-again c = search (needs, left-next)
 
@@ -73,7 +74,7 @@ watch-steps-spec =
     enum-known-read
     enum-told
     returns
-    step-once-requires
+    step-over-requires
     on-step-requires
     is-end-requires
     returns-2
