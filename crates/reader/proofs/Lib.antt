@@ -4,6 +4,7 @@ pub mod Silents
 pub mod Sounds
 pub mod Columns
 pub mod Runs
+pub mod Stops
 pub mod Answers
 pub mod BookSteps
 pub mod StepsOfBook

@@ -233,11 +233,11 @@ module _ (text : List ℕ) (t₀ t : Tables) (f : Tally) (at : ℕ) (v : FillRun
       go false e = accepted-refused e
 
   module _ (rest first : List ℕ) (n : ℕ) (h : at < length text) (e : rest ≡ drop at text) (g : Found 10 rest n) (e′ : first ≡ take n rest) where
-    on : unless (fault (v .book) (parse first)) (v .line) (readOn (add (n + 1) (v .book) (parse first)) (v .line + 1) (lines (drop (at + (n + 1)) text))) ≡ accepted (v .ready .book)
-    on = sym (v .same ∙ read-line (v .book) (v .line) text rest first at n h e g e′) ∙ accepted-lines text (v .ready .book) (v .ready .is)
+    pub fill-on : unless (fault (v .book) (parse first)) (v .line) (readOn (add (n + 1) (v .book) (parse first)) (v .line + 1) (lines (drop (at + (n + 1)) text))) ≡ accepted (v .ready .book)
+    fill-on = sym (v .same ∙ read-line (v .book) (v .line) text rest first at n h e g e′) ∙ accepted-lines text (v .ready .book) (v .ready .is)
 
     no-fault : fault (v .book) (parse first) ≡ none
-    no-fault = unless-none _ _ _ _ on .0
+    no-fault = unless-none _ _ _ _ fill-on .0
 
     pub fill-room : LineRoom first t f
     fill-room = record { room = subst (λ (x : Tables). RoomFor (parse first) x f) (sym (v .laid)) (room-by (v .book) t₀ (v .sound) (roomy-is t₀ (v .ready .room)) f (parse first) (v .tallied) (parse-label first) (passed (v .book) (parse first) no-fault)) }

@@ -15,9 +15,7 @@ use Rattle.line.specs.Word.{wordOf, lookup, fieldCount}
 use Rattle.line.specs.Line.{Line, bad, rule, wrong-rule, node, wrong-node, step, wrong-step, content, stepLine, ofFields, parse}
 use Rattle.line.specs.declared.word.Word.{Word}
 use Rattle.line.specs.declared.word.Word.the-variants.{Atom, Plain, Bounded, Rule, Step, Unknown}
-use Rattle.reader.specs.Tables.{Tables}
-use Rattle.reader.specs.Filled.{Silent, Told, Kept, LeftBy, LinePut}
-use Rattle.reader.specs.declared.fill.Tally.{Tally}
+use Rattle.reader.specs.Filled.{Silent, Told}
 
 abbrev SilentWord : Word → Type 0
 SilentWord (Atom op) = ⊥
@@ -75,15 +73,3 @@ told-empty line = record { is = λ e. let z : _≡_ {A = ℕ} 0 1 = cc in absurd
 pub told-first : (line : List ℕ) → (length line ≡ 0 → ⊥) → Told line (eqb (getD line 0 0) 115)
 told-first [] h = absurd (h refl)
 told-first (b ∷ r) h = record { is = λ p. subst (λ (x : ℕ). Silent (parse (x ∷ r))) (sym (eqb-true b 115 p)) (silent-line r) }
-
-silent-kept : (l : Line) (t : Tables) (f : Tally) → Silent l → LeftBy l t f t f
-silent-kept bad t f h = record { tables = refl; fill = refl }
-silent-kept (rule l k) t f h = absurd h
-silent-kept wrong-rule t f h = record { tables = refl; fill = refl }
-silent-kept (node op v) t f h = absurd h
-silent-kept wrong-node t f h = record { tables = refl; fill = refl }
-silent-kept (step s w) t f h = record { tables = refl; fill = refl }
-silent-kept wrong-step t f h = record { tables = refl; fill = refl }
-
-pub line-silent : (line : List ℕ) (t : Tables) (f : Tally) (r : Bool) → Told line r → r ≡ true → LinePut line t f t f
-line-silent line t f r u e = record { left = silent-kept (parse line) t f (u .is e) }

@@ -95,8 +95,8 @@ fn adds_nothing(line: &[u8]) -> bool
     line[0] == 115
 }
 
-// A line that is read.
-fn put_read(
+// One line.
+fn put_line(
     line: &[u8],
     labels: &mut [u8],
     lens: &mut [usize],
@@ -122,28 +122,7 @@ fn put_read(
     }
 }
 
-// One line. A line that begins with `s` adds nothing, so it is not read again.
-fn put_line(
-    line: &[u8],
-    labels: &mut [u8],
-    lens: &mut [usize],
-    kinds: &mut [u8],
-    firsts: &mut [usize],
-    counts: &mut [usize],
-    ops: &mut [u8],
-    nums: &mut [u64],
-    f: Tally,
-) -> Tally
-    requires { ⌜ LineRoom (now line) (record { labels = now labels; lens = now lens; kinds = now kinds; firsts = now firsts; counts = now counts; ops = now ops; nums = now nums }) f ⌝ }
-    ensures { λ r. ⌜ LinePut (now (line .entry)) (record { labels = now (labels .entry); lens = now (lens .entry); kinds = now (kinds .entry); firsts = now (firsts .entry); counts = now (counts .entry); ops = now (ops .entry); nums = now (nums .entry) }) f (record { labels = now (labels .exit); lens = now (lens .exit); kinds = now (kinds .exit); firsts = now (firsts .exit); counts = now (counts .exit); ops = now (ops .exit); nums = now (nums .exit) }) r ⌝ }
-{
-    if adds_nothing(line) {
-        return f;
-    }
-    put_read(line, labels, lens, kinds, firsts, counts, ops, nums, f)
-}
-
-// All lines.
+// All lines up to the first step; behind it an accepted book has nothing but steps.
 pub fn fill(
     text: &[u8],
     labels: &mut [u8],
@@ -166,17 +145,11 @@ pub fn fill(
     while at < text.len() {
         let rest = past(text, at);
         let n = find(rest, 10);
-        f = put_line(
-            upto(rest, n),
-            labels,
-            lens,
-            kinds,
-            firsts,
-            counts,
-            ops,
-            nums,
-            f,
-        );
+        let line = upto(rest, n);
+        if adds_nothing(line) {
+            return;
+        }
+        f = put_line(line, labels, lens, kinds, firsts, counts, ops, nums, f);
         at += n + 1;
     }
 }

@@ -1,68 +1,106 @@
-use Rattle.reader.proofs.Silents.{line-silent}
+use Rattle.reader.proofs.Fills.{rule-start, rule-len, line-rule-room, line-rule-put, line-node-room, line-node-put, line-kept}
 use borrow.Author.Needs.{needs}
 use Rattle.reader.proofs.fill.put_line.Statement.{statement}
 use Rattle.reader.proofs.fill.put_line.Tie as tie
 use Rattle.reader.proofs.fill.put_line.Reads as reads
 use Rattle.reader.proofs.fill.put_line.Lts as lts
-use Rattle.reader.proofs.fill.adds_nothing.Reads as adds-nothing-reads
-use Rattle.reader.proofs.fill.put_read.Reads as put-read-reads
+use Rattle.line.proofs.line.read_line.Reads as read-line-reads
+use Rattle.line.proofs.text.past.Reads as past-reads
+use Rattle.line.proofs.text.upto.Reads as upto-reads
+use Rattle.reader.proofs.fill.put_node.Reads as put-node-reads
+use Rattle.reader.proofs.fill.put_rule.Reads as put-rule-reads
 
--- src/fill.rt:140:8
-adds-nothing-requires : tie.Need-adds-nothing-requires
-adds-nothing-requires c κs = search needs
+-- src/fill.rt:103:9
+read-line-requires : tie.Need-read-line-requires
+read-line-requires c κs = search needs
 
--- src/fill.rt:141:9
-returns : tie.Need-returns
-returns c = search (needs, line-silent)
+-- src/fill.rt:105:22
+enum-known-l : tie.Need-enum-known-l
+enum-known-l c = search needs
 
--- src/fill.rt:143:5
-put-read-requires : tie.Need-put-read-requires
-put-read-requires c κs = search needs
+-- src/fill.rt:106:17
+past-requires : tie.Need-past-requires
+past-requires c κs = search (needs, rule-start)
 
--- src/fill.rt:126:1
+-- src/fill.rt:107:17
+upto-requires : tie.Need-upto-requires
+upto-requires c κs = search (needs, rule-len)
+
+-- src/fill.rt:108:13
+put-rule-requires : tie.Need-put-rule-requires
+put-rule-requires c κs = search (needs, line-rule-room)
+
+-- src/fill.rt:110:22
+enum-known-l-2 : tie.Need-enum-known-l-2
+enum-known-l-2 c = search needs
+
+-- src/fill.rt:110:35
+put-node-requires : tie.Need-put-node-requires
+put-node-requires c κs = search (needs, line-node-room)
+
+-- src/fill.rt:89:1
 same-length : tie.Need-same-length
 same-length c = search needs
 
--- src/fill.rt:126:1
+-- src/fill.rt:89:1
 same-length-2 : tie.Need-same-length-2
 same-length-2 c = search needs
 
--- src/fill.rt:126:1
+-- src/fill.rt:89:1
 same-length-3 : tie.Need-same-length-3
 same-length-3 c = search needs
 
--- src/fill.rt:126:1
+-- src/fill.rt:89:1
 same-length-4 : tie.Need-same-length-4
 same-length-4 c = search needs
 
--- src/fill.rt:126:1
+-- src/fill.rt:89:1
 same-length-5 : tie.Need-same-length-5
 same-length-5 c = search needs
 
--- src/fill.rt:126:1
+-- src/fill.rt:89:1
+returns : tie.Need-returns
+returns c = search (needs, line-rule-put)
+
+-- src/fill.rt:89:1
 same-length-6 : tie.Need-same-length-6
 same-length-6 c = search needs
 
--- src/fill.rt:126:1
+-- src/fill.rt:89:1
 same-length-7 : tie.Need-same-length-7
 same-length-7 c = search needs
 
--- src/fill.rt:126:1
+-- src/fill.rt:89:1
+same-length-8 : tie.Need-same-length-8
+same-length-8 c = search needs
+
+-- src/fill.rt:89:1
 returns-2 : tie.Need-returns-2
-returns-2 c = search needs
+returns-2 c = search (needs, line-node-put)
+
+-- src/fill.rt:89:1
+returns-3 : tie.Need-returns-3
+returns-3 c = search (needs, line-kept)
 
 pub put-line-spec : {M : Type 1} → statement M
 put-line-spec =
     tie.close
     (tie.spec
-    adds-nothing-requires
-    returns
-    put-read-requires
+    read-line-requires
+    enum-known-l
+    past-requires
+    upto-requires
+    put-rule-requires
+    enum-known-l-2
+    put-node-requires
     same-length
     same-length-2
     same-length-3
     same-length-4
     same-length-5
+    returns
     same-length-6
     same-length-7
-    returns-2)
+    same-length-8
+    returns-2
+    returns-3)
