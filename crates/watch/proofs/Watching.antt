@@ -1,27 +1,22 @@
 -- What a watch gives, from the answers of its calls.
 use mathlib.Core.Bool.{Bool, true, false, cond}
-use mathlib.Core.List.{List, [], _∷_}
-use mathlib.Core.Path.{_≡_, refl, sym, ap, subst, _∙_}
-use Prim.Native.Nat.{ℕ, _+_, _<_, _≤_}
-use native.Mathlib.Nat.{ne-of-lt}
+use mathlib.Core.List.{List, _∷_}
+use mathlib.Core.Path.{_≡_, refl, sym, ap, _∙_}
+use Prim.Native.Nat.{ℕ, _<_}
 use native.Mathlib.Omega.{arith}
-use lib.IntN.{ℤ, pos}
-use lib.ListN.{length, getD, set, replicate, length-set, length-replicate}
-use lib.Seq.{getD-set-same, getD-set-other}
-use borrow.Author.Count.{below-none, below-more}
+use lib.IntN.{ℤ}
+use lib.ListN.{length, replicate}
 use mir.Syntax.{w64}
 use mir.Val.{SFits, toZ, ofZ}
 use mir.Facts.{toZ-ofZ}
 use Rattle.formula.proofs.Cases.{true-false}
-use Rattle.node_table.specs.declared.FormulaNode.{FormulaNode}
-use Rattle.node_table.specs.Node.{nodeOf, blank as blank-node}
 use Rattle.book.specs.Book.{StepLine}
 use Rattle.reader.specs.Steps.{stepsFrom, handed, Hands}
 use Rattle.reader.specs.declared.steps.StepRead.{StepRead}
 use Rattle.reader.specs.declared.steps.StepRead.the-variants.{Step, End}
 use Rattle.compiler.specs.declared.Compiled.{Compiled}
 use Rattle.compiler.specs.declared.Compiled.the-variants.{Nodes, Refused as NotCompiled}
-use Rattle.compiler.specs.Compiled.{Answers, Call, compileCall}
+use Rattle.compiler.specs.Compiled.{Answers, compileCall}
 use Rattle.stepping.specs.declared.call.Verdict.{Verdict}
 use Rattle.stepping.specs.declared.call.Verdict.the-variants.{Accepted, Refused as NotStepped}
 use Rattle.stepping.specs.declared.fresh.Outcome.{Outcome}
@@ -33,7 +28,7 @@ use Rattle.in_place.specs.declared.fresh.Started.{Started}
 use Rattle.in_place.specs.InPlace.{stepIn, freshIn}
 use Rattle.watch.specs.declared.rule.Watched.{Watched}
 use Rattle.watch.specs.declared.rule.Watched.the-variants.{Quiet, Report, Refused}
-use Rattle.watch.specs.Watch.{rootCulprit, onVerdict, onStep, isEnd, watched, blank, onOutcome, compiledWatched, onCompiled, ruleWatched, Noded}
+use Rattle.watch.specs.Watch.{rootCulprit, onVerdict, onStep, isEnd, watched, blank, onOutcome, compiledWatched, onCompiled, ruleWatched}
 
 -- ---- one answer
 pub accepted-report : (b : Bool) (s : ℕ) (c : ℤ) → SFits w64 c → b ≡ true → Report s (toZ w64 (ofZ w64 c)) ≡ cond b (Report s c) Quiet
@@ -117,30 +112,3 @@ module _ (text : List ℕ) (from : ℕ) (ops nums : List ℕ) (first count : ℕ
 
   pub rule-refused : a ≡ NotCompiled n → Refused n ≡ ruleWatched text from ops nums first count
   rule-refused e = sym (ap (λ (x : Compiled). onCompiled x (at-nodes nodes)) e) ∙ ends-as
-
--- ---- columns as node structs: the places below i are done
-pub record Done (ops nums : List ℕ) (table : List FormulaNode) (i : ℕ) : Type 0 where
-  pub all : length table ≡ 1024
-  pub few : i ≤ 1024
-  pub is : (k : ℕ) → k < i → nodeOf table k ≡ record { op = getD ops k 0; num = getD nums k 0 }
-
-pub done-first : (ops nums : List ℕ) (x : FormulaNode) → Done ops nums (replicate 1024 x) 0
-done-first ops nums x = record {
-  all = length-replicate 1024 x;
-  few = omega arith;
-  is = below-none (λ k. nodeOf (replicate 1024 x) k ≡ record { op = getD ops k 0; num = getD nums k 0 });
-}
-
-pub done-next : (ops nums : List ℕ) (t : List FormulaNode) (i : ℕ) → Done ops nums t i → i < 1024 → Done ops nums (set t i (record { op = getD ops i 0; num = getD nums i 0 })) (i + 1)
-done-next ops nums t i d h =
-    let x : FormulaNode = record { op = getD ops i 0; num = getD nums i 0 } in
-    record {
-      all = length-set t i x ∙ d .all;
-      few = omega arith;
-      is = below-more (λ k. nodeOf (set t i x) k ≡ record { op = getD ops k 0; num = getD nums k 0 }) i
-          (λ k e. getD-set-other t i k x blank-node (ne-of-lt e) ∙ d .is k e)
-          (getD-set-same t i x blank-node (omega (arith, d .all)));
-    }
-
-pub done-all : (ops nums : List ℕ) (t : List FormulaNode) (i : ℕ) → Done ops nums t i → 1024 ≤ i → Noded ops nums t
-done-all ops nums t i d h = record { is = λ k e. d .is k (omega (arith, d .few)) }

@@ -3,12 +3,9 @@
 --     ruleWatched   the rule is compiled, its monitor made and stepped over the step lines from a place of the text on
 use mathlib.Core.Bool.{Bool, true, false}
 use mathlib.Core.List.{List, [], _∷_}
-use mathlib.Core.Path.{_≡_}
-use Prim.Native.Nat.{ℕ, _<_}
+use Prim.Native.Nat.{ℕ}
 use lib.IntN.{ℤ, pos}
 use lib.ListN.{getD, replicate}
-use Rattle.node_table.specs.declared.FormulaNode.{FormulaNode}
-use Rattle.node_table.specs.Node.{nodeOf}
 use Rattle.book.specs.Book.{StepLine}
 use Rattle.reader.specs.Steps.{stepsFrom}
 use Rattle.compiler.specs.declared.Compiled.{Compiled}
@@ -77,7 +74,3 @@ unfoldable pub ruleWatched : List ℕ → ℕ → List ℕ → List ℕ → ℕ 
 ruleWatched text from ops nums first count =
     let c : Call = compileCall ops nums first count (replicate 1792 0) in
     onCompiled (c .answer) (λ n. compiledWatched (record { ops = ops; nums = nums; first = first; count = count; nodes = c .out; nfirst = 0; ncount = n }) (stepsFrom text from))
-
--- a table whose node at each place has the columns' operation and number there
-pub record Noded (ops nums : List ℕ) (table : List FormulaNode) : Type 0 where
-  pub is : (k : ℕ) → k < 1024 → nodeOf table k ≡ record { op = getD ops k 0; num = getD nums k 0 }

@@ -4,12 +4,11 @@ mod rule;
 
 use crate::rule::Watched;
 use crate::rule::watch_rule;
+use lending_read::read_over;
 use libc::STDIN_FILENO;
 use libc::STDOUT_FILENO;
 use node_table::FormulaNode;
 use reader::read::Answer;
-use reader::read::read_book;
-ghost use Rattle.watch.specs.Watch.{Noded};
 
 fn put(s: &[u8]) {
     io::write_all(STDOUT_FILENO, s);
@@ -47,40 +46,24 @@ fn show_watched(w: Watched) {
     }
 }
 
-// The columns of a formula table as node structs.
-fn nodes_of(ops: &[u8; 1024], nums: &[u64; 1024]) -> [FormulaNode; 1024]
-    ensures { λ r. ⌜ Noded (now (ops .entry)) (now (nums .entry)) r ⌝ }
-{
-    let mut table = [FormulaNode { op: 0, num: 0 }; 1024];
-    let mut i: usize = 0;
-    while i < 1024 {
-        table[i] = FormulaNode {
-            op: ops[i],
-            num: nums[i],
-        };
-        i += 1;
-    }
-    table
-}
-
 fn watch_book(text: &[u8]) {
     let mut labels = [0u8; 2048];
     let mut lens = [0usize; 64];
     let mut kinds = [0u8; 64];
     let mut firsts = [0usize; 64];
     let mut counts = [0usize; 64];
-    let mut ops = [0u8; 1024];
-    let mut nums = [0u64; 1024];
-    let answer = read_book(
+    let blank = [FormulaNode { op: 0, num: 0 }; 1024];
+    let read = read_over(
         text,
         &mut labels,
         &mut lens,
         &mut kinds,
         &mut firsts,
         &mut counts,
-        &mut ops,
-        &mut nums,
+        blank,
     );
+    let answer = read.answer;
+    let table = read.table;
     match answer {
         Answer::Refused { number, line } => {
             show(b"book refused ", number as u64);
@@ -96,7 +79,6 @@ fn watch_book(text: &[u8]) {
                 put(b"no rule\n");
                 return;
             }
-            let table = nodes_of(&ops, &nums);
             show_watched(watch_rule(text, steps_at, table, firsts[0], counts[0]));
         }
     }
