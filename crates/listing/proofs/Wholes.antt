@@ -4,12 +4,10 @@ use mathlib.Core.List.{List, [], _∷_, _++_}
 use mathlib.Core.Path.{_≡_, refl, sym, ap, ap₂, subst, _∙_}
 use Prim.Native.Nat.{ℕ, _+_, _*_, _≤_, _<_}
 use native.Mathlib.Omega.{arith}
-use borrow.Author.Tests.{le-leb, lt-leb, leb-true}
+use borrow.Author.Tests.{le-leb, lt-leb}
 use lib.Dec.{leb}
 use lib.ListN.{length, getD, take, drop, length-append, length-drop, take-append-drop}
-use Rattle.number.specs.Number.{pick}
-use Rattle.line.specs.Text.{lines}
-use Rattle.book.specs.Book.{Book, Outcome, accepted, refused, empty, ended, readOn, read}
+use Rattle.book.specs.Book.{Book}
 use Rattle.reader.specs.Tables.{Tables}
 use Rattle.reader.specs.Answer.{Reads, Roomy}
 use Rattle.reader.specs.declared.read.Answer.{Answer}
@@ -21,6 +19,7 @@ use Rattle.rules.specs.Tabled.{Held, Tabled, Placed}
 use Rattle.listing_text.specs.Listing.{listing, listingOf, ruleAt, rulesText, rulesListing, refusedLine, reportLines, endLine}
 use Rattle.listing_size.specs.Room.{listingRoom}
 use Rattle.listing_size.proofs.ListingFits.{listing-fits}
+use Rattle.reader.proofs.Runs.{accepted-short}
 use Rattle.listing_size.specs.Handed.{Handed}
 use Rattle.listing_size.proofs.Handing.{handed, refused-listing}
 use Rattle.stepped_lines.specs.Holding.{Rows}
@@ -54,14 +53,6 @@ module _ (text out out′ : List ℕ) (n : ℕ) (w : Wrote (tape out 0) (listing
   listed-within = omega (arith, stood .0, ap length whole ∙ length-append (listing text) (drop (length (listing text)) out), length-drop (length (listing text)) out, fits)
 
 -- ---- reading
-short-text : (text : List ℕ) (b : Book) → read text ≡ accepted b → length text ≤ 65535
-unfolding read
-short-text text b e = go (leb (length text) 65535) refl e
-  where
-    go : (t : Bool) → leb (length text) 65535 ≡ t → pick t (pick (ended text) (readOn empty 0 (lines text)) (refused 4 0)) (refused 3 0) ≡ accepted b → length text ≤ 65535
-    go true h p = leb-true _ _ h
-    go false h p = let z : _≡_ {A = ℕ} 0 1 = cc in absurd (omega arith)
-
 module _ (text labels lens kinds firsts counts ops nums labels′ lens′ kinds′ firsts′ counts′ ops′ nums′ : List ℕ) where
   abbrev before : Tables
   before = record { labels = labels; lens = lens; kinds = kinds; firsts = firsts; counts = counts; ops = ops; nums = nums }
@@ -94,7 +85,7 @@ module _ (text labels lens kinds firsts counts ops nums : List ℕ) (n from : �
 
   module _ (nodes nfirsts ncounts refusals : List ℕ) (x y : Tape) (w : HeadListed tables n nodes nfirsts ncounts refusals x y) where
     pub compiled : Compiled text ops nums firsts counts nodes nfirsts ncounts refusals n
-    compiled = record { short = short-text text (h .book) (h .is); rules = ruleAt (h .book); is = w .tabled (ruleAt (h .book)) holds }
+    compiled = record { short = accepted-short text (h .book) (h .is); rules = ruleAt (h .book); is = w .tabled (ruleAt (h .book)) holds }
 
     pub book-listed : (z : Tape) → TailListed text from ops nums firsts counts nodes nfirsts ncounts refusals n y z → Wrote x (listing text) z
     unfolding rulesListing

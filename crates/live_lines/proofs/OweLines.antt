@@ -13,8 +13,10 @@ use Rattle.formula.specs.Spells.{Spells}
 use Rattle.formula.specs.Formula.{Formula, var, not, next, always, eventually, always-for, within, and, or, implies, until}
 use Rattle.formula.specs.Table.{nodeAt}
 use Rattle.formula.specs.Pure.{pure}
-use Rattle.liveness.specs.Split.{unless, unlessBoth, faults, Obligation, E, U, obligationsOf}
+use Rattle.liveness.specs.Split.{faults, Obligation, E, U, obligationsOf}
+use Rattle.liveness.proofs.Words.{append-nil-inv, unless-nil, both-nil}
 use Rattle.split.specs.Held.{obligationCells, owedCells}
+use Rattle.split.proofs.Cells.{owed-length}
 use Rattle.text.specs.Tape.{Tape, Wrote, joined}
 use Rattle.text.proofs.Tapes.{as-text, append-nil, joined-append, nothing, then}
 use Rattle.spelling.specs.Scan.{Pure}
@@ -148,21 +150,6 @@ unfolding OwesPure
 pure-append ops nums [] t p q = q
 pure-append ops nums (o ∷ s) t p q = (p .0, pure-append ops nums s t (p .1) q)
 
-cons-nil : {x : ℕ} {l : List ℕ} {B : Type 0} → x ∷ l ≡ [] → B
-cons-nil h = let z : _≡_ {A = ℕ} 0 1 = cc in absurd (omega arith)
-
-both-nil : (s t : List ℕ) → s ++ t ≡ [] → (s ≡ []) × (t ≡ [])
-both-nil [] t h = (refl, h)
-both-nil (x ∷ s) t h = cons-nil h
-
-unless-nil : (b : Bool) (n : ℕ) → unless b n ≡ [] → b ≡ true
-unless-nil true n h = refl
-unless-nil false n h = cons-nil h
-
-both-unless : (a b : Bool) (n : ℕ) → unlessBoth a b n ≡ [] → (a ≡ true) × (b ≡ true)
-both-unless true b n h = (refl, unless-nil b n h)
-both-unless false b n h = cons-nil h
-
 module _ (ops nums : List ℕ) where
   pure-there : (f : Formula) (i : ℕ) → pure f ≡ true → Spells (nodeAt ops nums) i f → i + size f ≤ length ops → i + size f ≤ length nums → Pure ops nums i
   pure-there f i p s g h = record { place = record { formula = f; spells = s; in-ops = g; in-nums = h }; is-pure = p }
@@ -179,16 +166,16 @@ module _ (ops nums : List ℕ) where
   owes-pure (one (always-for b) f) i s g h e = tt
   owes-pure (one (within b) f) i s g h e = tt
   owes-pure (two and l r) i s g h e =
-      let (p, q) = both-nil (faults l) (faults r) e in
+      let (p, q) = append-nil-inv (faults l) (faults r) e in
       pure-append ops nums (obligationsOf l (i + 1)) (obligationsOf r (i + 1 + size l)) (owes-pure l (i + 1) (s .1) (omega arith) (omega arith) p) (owes-pure r (i + 1 + size l) (s .2) (omega arith) (omega arith) q)
   owes-pure (two or l r) i s g h e =
-      let (p, q) = both-nil (faults l) (faults r) e in
+      let (p, q) = append-nil-inv (faults l) (faults r) e in
       pure-append ops nums (obligationsOf l (i + 1)) (obligationsOf r (i + 1 + size l)) (owes-pure l (i + 1) (s .1) (omega arith) (omega arith) p) (owes-pure r (i + 1 + size l) (s .2) (omega arith) (omega arith) q)
   owes-pure (two implies l r) i s g h e =
-      let (p, q) = both-nil (faults l) (faults r) e in
+      let (p, q) = append-nil-inv (faults l) (faults r) e in
       pure-append ops nums (obligationsOf l (i + 1)) (obligationsOf r (i + 1 + size l)) (owes-pure l (i + 1) (s .1) (omega arith) (omega arith) p) (owes-pure r (i + 1 + size l) (s .2) (omega arith) (omega arith) q)
   owes-pure (two until l r) i s g h e =
-      let (p, q) = both-unless (pure l) (pure r) 21 e in
+      let (p, q) = both-nil (pure l) (pure r) 21 e in
       ((pure-there l (i + 1) p (s .1) (omega arith) (omega arith), pure-there r (i + 1 + size l) q (s .2) (omega arith) (omega arith)), tt)
 
   pure-at : (os : List Obligation) (k : ℕ) → OwesPure ops nums os → k < length os → Purely ops nums (getD os k nil)
@@ -207,19 +194,13 @@ module _ (ops nums : List ℕ) where
       let c : z ≡ j = cc in
       record { left = subst (Pure ops nums) (sym b) (p .0); right = λ q. subst (Pure ops nums) (sym c) (p .1) }
 
-  cells-length : (os : List Obligation) → length (owedCells os) ≡ 3 * length os
-  unfolding owedCells
-  cells-length [] = refl
-  cells-length (E i f ∷ os) = omega (arith, cells-length os)
-  cells-length (U i f j g ∷ os) = omega (arith, cells-length os)
-
   -- what the `owe` lines ask, from the split's output
   pub owes-ready : (os : List Obligation) (l rest : List ℕ) → l ≡ owedCells os ++ rest → OwesPure ops nums os → OwesReady ops nums l (length os)
   owes-ready os l rest e p = record {
-    room = omega (arith, cells-length os, ap length e ∙ length-append (owedCells os) rest);
+    room = omega (arith, owed-length os, ap length e ∙ length-append (owedCells os) rest);
     owe = λ k h. ready-of (getD os k nil) (getD l (3 * k) 0) (getD l (3 * k + 1) 0) (getD l (3 * k + 2) 0) (ap (λ (x : List ℕ). three x k) e ∙ three-at os rest k h) (pure-at os k p h);
   }
 
   -- a split's obligations stand at the front of the lent slice
   pub owed-front : (os : List Obligation) (o : List ℕ) → 3 * length os ≤ length o → sets o 0 (owedCells os) ≡ owedCells os ++ drop (0 + length (owedCells os)) o
-  owed-front os o h = sets-eq (owedCells os) o 0 (omega (arith, cells-length os))
+  owed-front os o h = sets-eq (owedCells os) o 0 (omega (arith, owed-length os))

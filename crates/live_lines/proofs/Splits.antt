@@ -18,6 +18,7 @@ use Rattle.formula.proofs.Cases.{below-or}
 use Rattle.liveness.specs.Split.{Obligation, Skeleton, safety, owed, Not, And, Or, Implies, skeletonOf, obligationsOf, owes, Answer, none, parts, refused}
 use Rattle.liveness.specs.Text.{skeletonText}
 use Rattle.split.specs.Held.{entries, skeletonCells, Outcome, outcome, held}
+use Rattle.split.proofs.Cells.{cells-length}
 use Rattle.split.specs.declared.parts.Liveness.{Liveness}
 use Rattle.split.specs.declared.parts.Liveness.the-variants.{None, Parts, Refused}
 use Rattle.book_laws.specs.Write.{decimal}
@@ -46,15 +47,6 @@ formula-stands ops nums (two implies l r) i k s g h =
 formula-stands ops nums (two until l r) i k s g h = tt
 
 -- ---- its cells in lent memory
-cells-length : (sk : Skeleton) → length (skeletonCells sk) ≡ 2 * entries sk
-unfolding skeletonCells entries
-cells-length (safety i a) = refl
-cells-length (owed k) = refl
-cells-length (Not s) = omega (arith, cells-length s)
-cells-length (And s t) = omega (arith, cells-length s, cells-length t, length-append (skeletonCells s) (skeletonCells t))
-cells-length (Or s t) = omega (arith, cells-length s, cells-length t, length-append (skeletonCells s) (skeletonCells t))
-cells-length (Implies s t) = omega (arith, cells-length s, cells-length t, length-append (skeletonCells s) (skeletonCells t))
-
 pub cells-front : (sk : Skeleton) (s : List ℕ) → 2 * entries sk ≤ length s → sets s 0 (skeletonCells sk) ≡ skeletonCells sk ++ drop (0 + length (skeletonCells sk)) s
 cells-front sk s h = sets-eq (skeletonCells sk) s 0 (omega (arith, cells-length sk))
 
