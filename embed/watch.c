@@ -51,7 +51,7 @@ static uint64_t run(struct monitor *m, size_t ncount, uint64_t s, const uint64_t
         nodes, CAVEWATCH_NODES, 0, ncount,
         ncount, m->forms, CAVEWATCH_MONITOR, m->bounds, CAVEWATCH_MONITOR, m->held, CAVEWATCH_MONITOR,
         m->remaining, CAVEWATCH_MONITOR, m->failed, CAVEWATCH_MONITOR, m->culprits, CAVEWATCH_MONITOR, s, words, words_count,
-        found, CAVEWATCH_FOUND);
+        found);
 }
 
 /* one call for each step line, then all words of the lines in one call */
@@ -69,7 +69,7 @@ static int watch_rule(size_t begin, size_t ncount)
         return 1;
     }
     many = m;
-    while (cavewatch_next_step(text, text_count, at, found, CAVEWATCH_FOUND) == CAVEWATCH_ACCEPTED) {
+    while (cavewatch_next_step(text, text_count, at, found) == CAVEWATCH_ACCEPTED) {
         uint64_t s = found[0], w = found[1];
         at = found[2];
         if (taken == 0)
@@ -108,9 +108,9 @@ static int watch_book(void)
 
     answer = cavewatch_read_book(text, text_count, labels, CAVEWATCH_LABELS, lens, CAVEWATCH_RULES, kinds, CAVEWATCH_RULES,
         firsts, CAVEWATCH_RULES, counts, CAVEWATCH_RULES, ops, CAVEWATCH_FORMULA_NODES, nums, CAVEWATCH_FORMULA_NODES,
-        found, CAVEWATCH_FOUND);
+        found);
     if (answer != CAVEWATCH_ACCEPTED) {
-        printf("book refused %" PRIu64 " at line %" PRIu64 "\n", answer, found[0]);
+        printf("book refused %" PRIu64 " at line %" PRIu64 "\n", CAVEWATCH_NUMBER(answer), CAVEWATCH_LINE(answer));
         return 0;
     }
     begin = found[2];
@@ -120,7 +120,7 @@ static int watch_book(void)
     }
     printf("rule %.*s\n", (int)lens[0], (const char *)labels);
     answer = cavewatch_compile_rule(ops, CAVEWATCH_FORMULA_NODES, nums, CAVEWATCH_FORMULA_NODES, firsts[0], counts[0],
-        nodes, CAVEWATCH_NODES, found, CAVEWATCH_FOUND);
+        nodes, CAVEWATCH_NODES, found);
     if (answer != CAVEWATCH_ACCEPTED) {
         printf("rule refused %" PRIu64 "\n", answer);
         return 0;
@@ -128,20 +128,21 @@ static int watch_book(void)
     return watch_rule(begin, found[0]);
 }
 
-/* what a caller gets who lends too little: 1, and nothing is written */
-static int watch_short(void)
+/* what a caller gets who lends too little, or a text that is no book: the number, for a book with its line, and nothing is written */
+static int watch_refused(void)
 {
     uint64_t found[CAVEWATCH_FOUND] = {7, 7, 7}, answer;
     uint8_t few[1] = {9};
 
-    answer = cavewatch_list_book(text, text_count, few, 1, found, CAVEWATCH_FOUND);
+    answer = cavewatch_list_book(text, text_count, few, 1, found);
     if (answer != 1 || few[0] != 9 || found[0] != 7)
         return 1;
-    answer = cavewatch_list_book(text, text_count, out, CAVEWATCH_LISTING, found, 2);
-    if (answer != 1 || out[0] != 0)
+    answer = cavewatch_read_book((const uint8_t *)"rule\ta\tP\nvar\t64\n", 16, labels, CAVEWATCH_LABELS, lens, CAVEWATCH_RULES,
+        kinds, CAVEWATCH_RULES, firsts, CAVEWATCH_RULES, counts, CAVEWATCH_RULES, ops, CAVEWATCH_FORMULA_NODES, nums, CAVEWATCH_FORMULA_NODES, found);
+    if (CAVEWATCH_NUMBER(answer) != 8 || CAVEWATCH_LINE(answer) != 2 || found[0] != 7 || found[1] != 7 || found[2] != 7)
         return 1;
-    answer = cavewatch_next_step(text, 0, 0, found, CAVEWATCH_FOUND);
-    return answer != CAVEWATCH_END;
+    answer = cavewatch_next_step((const uint8_t *)"step\t0\t0000000000000000", 23, 0, found);
+    return answer != CAVEWATCH_END || found[0] != 7;
 }
 
 int main(int argc, char **argv)
@@ -160,11 +161,11 @@ int main(int argc, char **argv)
     }
     text_count = fread(text, 1, TEXT, book);
     fclose(book);
-    if (watch_book() != 0 || watch_short() != 0) {
+    if (watch_book() != 0 || watch_refused() != 0) {
         printf("not as cavewatch.h says\n");
         return 1;
     }
-    if (cavewatch_list_book(text, text_count, out, CAVEWATCH_LISTING, found, CAVEWATCH_FOUND) == CAVEWATCH_ACCEPTED)
+    if (cavewatch_list_book(text, text_count, out, CAVEWATCH_LISTING, found) == CAVEWATCH_ACCEPTED)
         fwrite(out, 1, found[0], stdout);
     return 0;
 }

@@ -9,6 +9,7 @@ use native.Mathlib.Nat.{add-zero}
 use lib.Dec.{leb}
 use lib.ListN.{length}
 use borrow.Author.Tests.{le-leb, lt-leb}
+use Rattle.result.specs.Result.{given, refused, orElse}
 use Rattle.formula.specs.Tree.{Tree, unknown, size, prefix}
 use Rattle.formula.specs.Spells.{run, Spells}
 use Rattle.formula.specs.Formula.{Formula}
@@ -19,10 +20,8 @@ use Rattle.monitor.specs.declared.node.Row.{Row}
 use Rattle.monitor.specs.Mon.{Check, Mon}
 use Rattle.monitor.specs.Table.{Never, Join, Cell, cellOf, cellBy, cells, rowOf, fromTree}
 use Rattle.monitor.proofs.Holds.{Holds, held-inv}
-use Rattle.alike.specs.declared.Likeness.{Likeness}
-use Rattle.alike.specs.declared.Likeness.the-variants.{Alike, Unlike, Refused}
 use Rattle.alike.specs.declared.Part.{Part}
-use Rattle.alike.specs.Alike.{alikeMon, partOf, said, likened, orShort, likenessCall, alikeSome}
+use Rattle.alike.specs.Alike.{alikeMon, partOf, likened, likenessCall, alikeSome}
 use Rattle.alike.specs.Rows.{alikeCell, alikeCells, Shows, IsShown, SameRow, IsCompiled}
 use Rattle.alike.proofs.Matches.{trees-alike, lengths-differ, known-at, cell-shown}
 
@@ -158,57 +157,57 @@ module _ (ops nums nodes : List ℕ) where
       go none e w = let z : _≡_ {A = ℕ} 0 1 = cc in absurd (omega arith)
       go (some m) e w = record { mon = m; is = e }
 
-  pub short-nodes : (a b : Part) → length nodes < 1792 → Refused 1 ≡ likenessCall ops nums nodes a b
+  pub short-nodes : (a b : Part) → length nodes < 1792 → refused 1 ≡ likenessCall ops nums nodes a b
   unfolding likenessCall
-  short-nodes a b h = sym (ap (λ (t : Bool). orShort t (likened (partOf ops nums nodes a) (partOf ops nums nodes b))) (ap (roomy ops nums &&_) (lt-leb 1792 (length nodes) h) ∙ and-no (roomy ops nums)))
+  short-nodes a b h = sym (ap (λ (t : Bool). orElse t 1 (likened (partOf ops nums nodes a) (partOf ops nums nodes b))) (ap (roomy ops nums &&_) (lt-leb 1792 (length nodes) h) ∙ and-no (roomy ops nums)))
     where
       and-no : (t : Bool) → (t && false) ≡ false
       and-no true = refl
       and-no false = refl
 
   module _ (a b : Part) (h : 1792 ≤ length nodes) (v : Bool) (p : v ≡ roomy ops nums) where
-    by-room : likenessCall ops nums nodes a b ≡ orShort v (likened (partOf ops nums nodes a) (partOf ops nums nodes b))
+    by-room : likenessCall ops nums nodes a b ≡ orElse v 1 (likened (partOf ops nums nodes a) (partOf ops nums nodes b))
     unfolding likenessCall
-    by-room = ap (λ (t : Bool). orShort t (likened (partOf ops nums nodes a) (partOf ops nums nodes b))) (ap₂ _&&_ (sym p) (le-leb 1792 (length nodes) h) ∙ and-yes v)
+    by-room = ap (λ (t : Bool). orElse t 1 (likened (partOf ops nums nodes a) (partOf ops nums nodes b))) (ap₂ _&&_ (sym p) (le-leb 1792 (length nodes) h) ∙ and-yes v)
       where
         and-yes : (t : Bool) → (t && true) ≡ t
         and-yes true = refl
         and-yes false = refl
 
-    pub not-roomy : v ≡ false → Refused 1 ≡ likenessCall ops nums nodes a b
-    not-roomy q = sym (by-room ∙ ap (λ (t : Bool). orShort t (likened (partOf ops nums nodes a) (partOf ops nums nodes b))) q)
+    pub not-roomy : v ≡ false → refused 1 ≡ likenessCall ops nums nodes a b
+    not-roomy q = sym (by-room ∙ ap (λ (t : Bool). orElse t 1 (likened (partOf ops nums nodes a) (partOf ops nums nodes b))) q)
 
     module _ (q : v ≡ true) (c : Bool) (r : c ≡ isSome (partOf ops nums nodes a)) where
       by-parts : likenessCall ops nums nodes a b ≡ likened (partOf ops nums nodes a) (partOf ops nums nodes b)
-      by-parts = by-room ∙ ap (λ (t : Bool). orShort t (likened (partOf ops nums nodes a) (partOf ops nums nodes b))) q
+      by-parts = by-room ∙ ap (λ (t : Bool). orElse t 1 (likened (partOf ops nums nodes a) (partOf ops nums nodes b))) q
 
-      pub first-none : c ≡ false → Refused 2 ≡ likenessCall ops nums nodes a b
+      pub first-none : c ≡ false → refused 2 ≡ likenessCall ops nums nodes a b
       first-none z = sym (by-parts ∙ go (partOf ops nums nodes a) (sym r ∙ z))
         where
-          go : (o : Option Mon) → isSome o ≡ false → likened o (partOf ops nums nodes b) ≡ Refused 2
+          go : (o : Option Mon) → isSome o ≡ false → likened o (partOf ops nums nodes b) ≡ refused 2
           go none e = refl
           go (some m) e = let z : _≡_ {A = ℕ} 0 1 = cc in absurd (omega arith)
 
       module _ (z : c ≡ true) (d : Bool) (s : d ≡ isSome (partOf ops nums nodes b)) where
-        pub second-none : d ≡ false → Refused 2 ≡ likenessCall ops nums nodes a b
+        pub second-none : d ≡ false → refused 2 ≡ likenessCall ops nums nodes a b
         second-none y = sym (by-parts ∙ go (partOf ops nums nodes a) (partOf ops nums nodes b) (sym s ∙ y))
           where
-            go : (o o′ : Option Mon) → isSome o′ ≡ false → likened o o′ ≡ Refused 2
+            go : (o o′ : Option Mon) → isSome o′ ≡ false → likened o o′ ≡ refused 2
             go none o′ e = refl
             go (some m) none e = refl
             go (some m) (some n) e = let z : _≡_ {A = ℕ} 0 1 = cc in absurd (omega arith)
 
         module _ (y : d ≡ true) (t : Bool) (l : t ≡ alikeSome (partOf ops nums nodes a) (partOf ops nums nodes b)) where
-          as-said : likenessCall ops nums nodes a b ≡ said t
-          as-said = by-parts ∙ go (partOf ops nums nodes a) (partOf ops nums nodes b) (sym r ∙ z) (sym s ∙ y) ∙ ap said (sym l)
+          as-said : likenessCall ops nums nodes a b ≡ given t
+          as-said = by-parts ∙ go (partOf ops nums nodes a) (partOf ops nums nodes b) (sym r ∙ z) (sym s ∙ y) ∙ ap given (sym l)
             where
-              go : (o o′ : Option Mon) → isSome o ≡ true → isSome o′ ≡ true → likened o o′ ≡ said (alikeSome o o′)
+              go : (o o′ : Option Mon) → isSome o ≡ true → isSome o′ ≡ true → likened o o′ ≡ given (alikeSome o o′)
               go none o′ e f = let z : _≡_ {A = ℕ} 0 1 = cc in absurd (omega arith)
               go (some m) none e f = let z : _≡_ {A = ℕ} 0 1 = cc in absurd (omega arith)
               go (some m) (some n) e f = refl
 
-          pub both-alike : t ≡ true → Alike ≡ likenessCall ops nums nodes a b
-          both-alike x = sym (as-said ∙ ap said x)
+          pub both-alike : t ≡ true → given true ≡ likenessCall ops nums nodes a b
+          both-alike x = sym (as-said ∙ ap given x)
 
-          pub both-unlike : t ≡ false → Unlike ≡ likenessCall ops nums nodes a b
-          both-unlike x = sym (as-said ∙ ap said x)
+          pub both-unlike : t ≡ false → given false ≡ likenessCall ops nums nodes a b
+          both-unlike x = sym (as-said ∙ ap given x)

@@ -1,12 +1,14 @@
 -- Document 01, "The listing": two compiled rules are alike if nodes agree one for one, signal text compared with v, i, o taken as one letter.
 --     alikeMon         likeness of two compiled rules
---     likenessCall     the whole call: document 01's number of a refusal, or whether the rules are alike
+--     resultOf         document 01's result of the answer enum
+--     likenessCall     the whole call: whether the rules are alike, or the refusal
 use mathlib.Core.Bool.{Bool, true, false, _&&_}
 use mathlib.Core.List.{List}
 use mathlib.Core.Option.{Option, none, some}
 use Prim.Native.Nat.{ℕ}
 use lib.Dec.{eqb, leb}
 use lib.ListN.{length}
+use Rattle.result.specs.Result.{Result, given, refused, orElse}
 use Rattle.formula.specs.Table.{roomy}
 use Rattle.formula.specs.Text.{alikeText}
 use Rattle.monitor.specs.declared.range.End.{End}
@@ -67,31 +69,23 @@ alikeMon (Or l r) (Or m n) = alikeMon l m && alikeMon r n
 abbrev pub partOf : List ℕ → List ℕ → List ℕ → Part → Option Mon
 partOf ops nums nodes a = compiledOf ops nums (a .first) (a .count) nodes (a .nfirst) (a .ncount)
 
-abbrev pub said : Bool → Likeness
-said true = Alike
-said false = Unlike
+-- document 01's result of an answer: whether the rules are alike, or the refusal
+abbrev pub resultOf : Likeness → Result Bool
+resultOf Alike = given true
+resultOf Unlike = given false
+resultOf (Refused n) = refused n
 
 -- refusal 2: one of the two is no compiled rule
-abbrev pub likened : Option Mon → Option Mon → Likeness
-likened none n = Refused 2
-likened (some m) none = Refused 2
-likened (some m) (some n) = said (alikeMon m n)
+abbrev pub likened : Option Mon → Option Mon → Result Bool
+likened none n = refused 2
+likened (some m) none = refused 2
+likened (some m) (some n) = given (alikeMon m n)
 
 -- refusal 1: a table is shorter than 1,024 formula nodes or 256 monitor nodes, of seven numbers each
-abbrev pub orShort : Bool → Likeness → Likeness
-orShort true l = l
-orShort false l = Refused 1
-
-unfoldable pub likenessCall : List ℕ → List ℕ → List ℕ → Part → Part → Likeness
+unfoldable pub likenessCall : List ℕ → List ℕ → List ℕ → Part → Part → Result Bool
 likenessCall ops nums nodes a b =
-    orShort (roomy ops nums && leb 1792 (length nodes))
+    orElse (roomy ops nums && leb 1792 (length nodes)) 1
     (likened (partOf ops nums nodes a) (partOf ops nums nodes b))
-
--- document 01's number of an answer: 0 where the rules are compared
-abbrev pub refusalOf : Likeness → ℕ
-refusalOf Alike = 0
-refusalOf Unlike = 0
-refusalOf (Refused n) = n
 
 -- the likeness of two parts that hold compiled rules
 abbrev pub alikeSome : Option Mon → Option Mon → Bool

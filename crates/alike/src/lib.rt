@@ -9,7 +9,7 @@ pub mod text;
 ghost use mathlib.Core.Path.{_≡_};
 ghost use mathlib.Core.Option.{Option};
 ghost use Rattle.formula.specs.Table.{isSome};
-ghost use Rattle.alike.specs.Alike.{partOf, likenessCall};
+ghost use Rattle.alike.specs.Alike.{partOf, resultOf, likenessCall};
 
 // A compiled rule in the tables: its formula's first place and count, its nodes' first row and count.
 pub struct Part {
@@ -35,7 +35,7 @@ fn holds(ops: &[u8], nums: &[u64], nodes: &[u64], a: Part) -> bool
 
 // Compares the compiled rules that two parts of the same tables hold.
 pub fn alike(ops: &[u8], nums: &[u64], nodes: &[u64], a: Part, b: Part) -> Likeness
-    ensures { λ r. ⌜ r ≡ likenessCall (now (ops .entry)) (now (nums .entry)) (now (nodes .entry)) a b ⌝ }
+    ensures { λ r. ⌜ resultOf r ≡ likenessCall (now (ops .entry)) (now (nums .entry)) (now (nodes .entry)) a b ⌝ }
 {
     if nodes.len() < 1792 {
         return Likeness::Refused(1);

@@ -4,6 +4,7 @@
 --     add        what a line adds
 --     readOn     the lines one after the other
 --     read       the whole: refusals 3 and 4, then the lines, then 10
+--     bookResult what a caller is told of it
 -- A line is taken apart without any state (`parse`, crate `line`).
 use mathlib.Core.Bool.{Bool, true, false, _&&_, _||_, not}
 use mathlib.Core.List.{List, [], _∷_, _++_}
@@ -200,6 +201,15 @@ add n b wrong-step = b
 pub data Outcome : Type 0 where
   accepted : Book → Outcome
   refused : ℕ → ℕ → Outcome  -- document 01's number, and the line
+
+-- document 01's result: how many rules and nodes the book holds and the byte at which its step lines begin; or the number and the line
+pub data BookResult : Type 0 where
+  contents : ℕ → ℕ → ℕ → BookResult
+  refusal : ℕ → ℕ → BookResult
+
+abbrev pub bookResult : Outcome → BookResult
+bookResult (accepted b) = contents (length (b .labels)) (length (b .ops)) (b .head)
+bookResult (refused n k) = refusal n k
 
 -- a fault in the line behind k others refuses the book, whatever follows
 abbrev pub unless : Option Fault → ℕ → Outcome → Outcome

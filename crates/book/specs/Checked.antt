@@ -10,7 +10,7 @@ use Rattle.number.specs.Number.{pick}
 use Rattle.line.specs.Line.{Line, rule, node, step}
 use Rattle.line.specs.Means.{means}
 use Rattle.line.specs.declared.line.Line as code
-use Rattle.book.specs.Book.{Book, isNil, lastOf, spend, Fault, numberOf, fault, add, Outcome, accepted, refused}
+use Rattle.book.specs.Book.{Book, isNil, lastOf, spend, Fault, numberOf, fault, add, BookResult, contents, refusal, ended}
 use Rattle.book.specs.declared.due.Due.{Due}
 use Rattle.book.specs.declared.state.State.{State}
 use Rattle.book.specs.declared.state.Taken.{Taken}
@@ -18,10 +18,15 @@ use Rattle.book.specs.declared.state.Taken.the-variants.{Next, Faulty}
 use Rattle.book.specs.declared.check.Checked.{Checked}
 use Rattle.book.specs.declared.check.Checked.the-variants.{Good, Refused}
 
--- the code's answer for an outcome
-abbrev pub checkedOf : Outcome → Checked
-checkedOf (accepted b) = Good (length (b .labels)) (length (b .ops)) (b .head)
-checkedOf (refused n k) = Refused n k
+-- document 01's result for each case of the answer
+abbrev pub resultOf : Checked → BookResult
+resultOf (Good r n h) = contents r n h
+resultOf (Refused n k) = refusal n k
+
+-- a text that is no longer than a book and ends where a line ends
+pub record Lined (text : List ℕ) : Type 0 where
+  pub short : length text ≤ 65535
+  pub ends : ended text ≡ true
 
 -- ---- the depths at which operands are due, as a depth and bits
 -- the depths from d down whose bits are set, bit 0 for d itself

@@ -7,11 +7,9 @@ use line::text::find;
 use line::text::past;
 use line::text::upto;
 ghost use mathlib.Core.Path.{_≡_};
-ghost use Prim.Native.Nat.{_≤_};
-ghost use lib.ListN.{length};
 ghost use Rattle.line.specs.Text.{lines};
-ghost use Rattle.book.specs.Book.{empty, readOn, read, ended};
-ghost use Rattle.book.specs.Checked.{checkedOf};
+ghost use Rattle.book.specs.Book.{empty, readOn, read, bookResult, ended};
+ghost use Rattle.book.specs.Checked.{resultOf, Lined};
 
 // `head` is the number of bytes before the step lines.
 pub enum Checked {
@@ -28,8 +26,8 @@ pub enum Checked {
 
 // The lines one after the other.
 fn check_lines(text: &[u8]) -> Checked
-    requires { ⌜ length (now text) ≤ 65535 ⌝ }
-    ensures { λ r. ⌜ r ≡ checkedOf (readOn empty 0 (lines (now (text .entry)))) ⌝ }
+    requires { ⌜ Lined (now text) ⌝ }
+    ensures { λ r. ⌜ resultOf r ≡ bookResult (readOn empty 0 (lines (now (text .entry)))) ⌝ }
 {
     let mut s = start();
     let mut at: usize = 0;
@@ -73,7 +71,7 @@ fn is_ended(text: &[u8]) -> bool
 
 // The check of a whole book.
 pub fn check(text: &[u8]) -> Checked
-    ensures { λ r. ⌜ r ≡ checkedOf (read (now (text .entry))) ⌝ }
+    ensures { λ r. ⌜ resultOf r ≡ bookResult (read (now (text .entry))) ⌝ }
 {
     if 65535 < text.len() {
         return Checked::Refused { number: 3, line: 0 };

@@ -428,6 +428,7 @@ module _ (b : Book) (d : Done b) (k : ℕ) (h : k < length (b .labels)) where
       let sized : size f ≡ count = sym (prefix-length f) ∙ ap length (sym (u .formulated .is)) ∙ length-take-le count (drop first (nodesOf b)) (omega (arith, length-drop first (nodesOf b), u .inside)) in
       record {
         few = u .few;
+        in-table = omega (arith, s .less);
         in-ops = omega (arith, length-append (b .ops) x);
         in-nums = omega (arith, length-append (b .nums) y, s .nums-long);
         spells = run-spells (nodeAt (b .ops ++ x) (b .nums ++ y)) first f (ap (run (nodeAt (b .ops ++ x) (b .nums ++ y)) first) sized ∙ ran);

@@ -1,65 +1,104 @@
--- An answer's number and further numbers, from which answer it is.
+-- What each answer is said as, from which answer it is.
 use mathlib.Core.Bool.{Bool, true, false, cond}
 use mathlib.Core.List.{List, [], _∷_}
 use mathlib.Core.Path.{_≡_, refl, sym, ap, subst, _∙_}
-use Prim.Native.Nat.{ℕ, _≤_, _<_}
-use native.Mathlib.Nat.{le-trans}
-use lib.Dec.{lit≤}
-use lib.ListN.{length, set, length-set}
+use Prim.Native.Nat.{ℕ, _+_, _*_, _≤_, _<_}
+use native.Mathlib.Omega.{arith}
+use lib.ListN.{length, set}
 use lib.Seq.{sets}
+use mir.Syntax.{w64}
+use mir.Val.{Fits}
+use Rattle.reader.specs.Answer as Reading
+use Rattle.reader.specs.Steps as Steps
 use Rattle.reader.specs.declared.read.Answer.{Answer}
 use Rattle.reader.specs.declared.read.Answer.the-variants.{Read, Refused as NotRead}
 use Rattle.reader.specs.declared.steps.StepRead.{StepRead}
-use Rattle.reader.specs.declared.steps.StepRead.the-variants.{Step}
+use Rattle.reader.specs.declared.steps.StepRead.the-variants.{Step, End}
+use Rattle.compiler.specs.Compiled as Compiling
 use Rattle.compiler.specs.declared.Compiled.{Compiled}
-use Rattle.compiler.specs.declared.Compiled.the-variants.{Nodes}
+use Rattle.compiler.specs.declared.Compiled.the-variants.{Nodes, Refused as NotCompiled}
+use Rattle.stepping.specs.Call as Stepping
 use Rattle.stepping.specs.declared.call.Verdict.{Verdict}
-use Rattle.stepping.specs.declared.call.Verdict.the-variants.{Accepted}
+use Rattle.stepping.specs.declared.call.Verdict.the-variants.{Accepted, Refused as NotStepped}
+use Rattle.runs.specs.Run as Running
 use Rattle.runs.specs.declared.RunVerdict.{RunVerdict}
-use Rattle.runs.specs.declared.RunVerdict.the-variants.{Reported}
+use Rattle.runs.specs.declared.RunVerdict.the-variants.{Quiet, Reported, Refused as NotRun}
+use Rattle.listing.specs.Lists as Listing
 use Rattle.listing.specs.declared.whole.Listed.{Listed}
-use Rattle.listing.specs.declared.whole.Listed.the-variants.{Text}
-use Rattle.cavewatch_c.specs.Numbers.{readNumber, readFound, lineNumber, lineFound, compiledNumber, compiledFound, verdictNumber, runNumber, runFound, listedNumber, listedFound}
-use Rattle.cavewatch_c.specs.Calls.{Told}
+use Rattle.listing.specs.declared.whole.Listed.the-variants.{Text, Refused as NotListed}
+use Rattle.cavewatch_c.specs.Numbers.{Told, told, bookTold, lineTold, countTold, stepTold, runTold}
+use Rattle.cavewatch_c.specs.Said.{Says, toldBy, SmallLine}
+use Rattle.cavewatch_c.specs.declared.tell.Said.{Said}
+use Rattle.cavewatch_c.specs.declared.tell.Said.the-variants.{Number, One, Three}
 
--- the second and the third number have room
-pub room-2 : (l : List ℕ) (a : ℕ) → 3 ≤ length l → 1 < length (set l 0 a)
-room-2 l a h = subst (λ (n : ℕ). 2 ≤ n) (sym (length-set l 0 a)) (le-trans (lit≤ tt) h)
+-- ---- what is said is written
+module _ (x : Said) (found : List ℕ) where
+  says-as : (y : Said) → x ≡ y → Says (toldBy x) found (toldBy y .number) (sets found 0 (toldBy y .numbers))
+  says-as y e = record {
+    number-is = sym (ap (λ (z : Said). toldBy z .number) e);
+    found-is = sym (ap (λ (z : Said). sets found 0 (toldBy z .numbers)) e);
+  }
 
-pub room-3 : (l : List ℕ) (a b : ℕ) → 3 ≤ length l → 2 < length (set (set l 0 a) 1 b)
-room-3 l a b h = subst (λ (n : ℕ). 3 ≤ n) (sym (length-set (set l 0 a) 1 b ∙ length-set l 0 a)) h
+  pub says-number : (n : ℕ) → x ≡ Number n → Says (toldBy x) found n found
+  says-number n e = says-as (Number n) e
 
--- an answer that is known is told by its own numbers
-told-as : {A : Type 0} (number : A → ℕ) (numbers : A → List ℕ) (a b : A) (found : List ℕ) → a ≡ b → Told (number a) (numbers a) found (number b) (sets found 0 (numbers b))
-told-as number numbers a b found e = record {
-  number-is = sym (ap number e);
-  found-is = sym (ap (λ (x : _). sets found 0 (numbers x)) e);
-}
+  pub says-one : (n a : ℕ) → x ≡ One n a → Says (toldBy x) found n (set found 0 a)
+  says-one n a e = says-as (One n a) e
 
-pub told-read : (a : Answer) (r n s : ℕ) (found found′ : List ℕ) → a ≡ Read r n s → found′ ≡ sets found 0 (r ∷ n ∷ s ∷ []) → Told (readNumber a) (readFound a) found 0 found′
-told-read a r n s found found′ e f = record {
-  number-is = sym (ap readNumber e);
-  found-is = f ∙ sym (ap (λ (x : Answer). sets found 0 (readFound x)) e);
-}
+  pub says-three : (a b c : ℕ) → x ≡ Three a b c → Says (toldBy x) found 0 (set (set (set found 0 a) 1 b) 2 c)
+  says-three a b c e = says-as (Three a b c) e
 
-pub told-refused : (a : Answer) (n k : ℕ) (found : List ℕ) → a ≡ NotRead n k → Told (readNumber a) (readFound a) found n (set found 0 k)
-told-refused a n k found e = told-as readNumber readFound a (NotRead n k) found e
+-- ---- a book
+module _ (a : Answer) where
+  pub told-read : (r n s : ℕ) → a ≡ Read r n s → toldBy (Three r n s) ≡ bookTold (Reading.resultOf a)
+  told-read r n s e = sym (ap (λ (x : Answer). bookTold (Reading.resultOf x)) e)
 
-pub told-line : (a : StepRead) (s w next : ℕ) (found found′ : List ℕ) → a ≡ Step s w next → found′ ≡ sets found 0 (s ∷ w ∷ next ∷ []) → Told (lineNumber a) (lineFound a) found 0 found′
-told-line a s w next found found′ e f = record {
-  number-is = sym (ap lineNumber e);
-  found-is = f ∙ sym (ap (λ (x : StepRead). sets found 0 (lineFound x)) e);
-}
+  module _ (n k : ℕ) (e : a ≡ NotRead n k) where
+    pub told-unread : toldBy (Number (n + 256 * k)) ≡ bookTold (Reading.resultOf a)
+    told-unread = sym (ap (λ (x : Answer). bookTold (Reading.resultOf x)) e)
 
-pub told-nodes : (a : Compiled) (n : ℕ) (found : List ℕ) → a ≡ Nodes n → Told (compiledNumber a) (compiledFound a) found 0 (set found 0 n)
-told-nodes a n found e = told-as compiledNumber compiledFound a (Nodes n) found e
+    small : SmallLine a → (n ≤ 10) × (k ≤ 65535)
+    small h = subst SmallLine e h
 
-pub told-verdict : (v : Verdict) (b : Bool) (r : ℕ) → v ≡ Accepted b → r ≡ cond b 100 0 → r ≡ verdictNumber v
-told-verdict v true r e f = f ∙ sym (ap verdictNumber e)
-told-verdict v false r e f = f ∙ sym (ap verdictNumber e)
+    pub line-fits : SmallLine a → Fits w64 (256 * k)
+    line-fits h = record { fits = omega (arith, small h .1) }
 
-pub told-report : (a : RunVerdict) (s : ℕ) (found : List ℕ) → a ≡ Reported s → Told (runNumber a) (runFound a) found 100 (set found 0 s)
-told-report a s found e = told-as runNumber runFound a (Reported s) found e
+    pub both-fit : SmallLine a → Fits w64 (n + 256 * k)
+    both-fit h = record { fits = omega (arith, small h .0, small h .1) }
 
-pub told-text : (a : Listed) (n : ℕ) (found : List ℕ) → a ≡ Text n → Told (listedNumber a) (listedFound a) found 0 (set found 0 n)
-told-text a n found e = told-as listedNumber listedFound a (Text n) found e
+-- ---- a step line
+pub told-line : (a : StepRead) (s w next : ℕ) → a ≡ Step s w next → toldBy (Three s w next) ≡ told lineTold (Steps.resultOf a)
+told-line a s w next e = sym (ap (λ (x : StepRead). told lineTold (Steps.resultOf x)) e)
+
+pub told-end : (a : StepRead) → a ≡ End → toldBy (Number 101) ≡ told lineTold (Steps.resultOf a)
+told-end a e = sym (ap (λ (x : StepRead). told lineTold (Steps.resultOf x)) e)
+
+-- ---- a rule
+pub told-nodes : (a : Compiled) (n : ℕ) → a ≡ Nodes n → toldBy (One 0 n) ≡ told countTold (Compiling.resultOf a)
+told-nodes a n e = sym (ap (λ (x : Compiled). told countTold (Compiling.resultOf x)) e)
+
+pub told-uncompiled : (a : Compiled) (n : ℕ) → a ≡ NotCompiled n → toldBy (Number n) ≡ told countTold (Compiling.resultOf a)
+told-uncompiled a n e = sym (ap (λ (x : Compiled). told countTold (Compiling.resultOf x)) e)
+
+pub told-verdict : (v : Verdict) (b : Bool) (r : ℕ) → v ≡ Accepted b → r ≡ cond b 100 0 → r ≡ told stepTold (Stepping.resultOf v) .number
+told-verdict v true r e f = f ∙ sym (ap (λ (x : Verdict). told stepTold (Stepping.resultOf x) .number) e)
+told-verdict v false r e f = f ∙ sym (ap (λ (x : Verdict). told stepTold (Stepping.resultOf x) .number) e)
+
+pub told-unstepped : (v : Verdict) (n : ℕ) → v ≡ NotStepped n → n ≡ told stepTold (Stepping.resultOf v) .number
+told-unstepped v n e = sym (ap (λ (x : Verdict). told stepTold (Stepping.resultOf x) .number) e)
+
+pub told-quiet : (a : RunVerdict) → a ≡ Quiet → toldBy (Number 0) ≡ told runTold (Running.resultOf a)
+told-quiet a e = sym (ap (λ (x : RunVerdict). told runTold (Running.resultOf x)) e)
+
+pub told-report : (a : RunVerdict) (s : ℕ) → a ≡ Reported s → toldBy (One 100 s) ≡ told runTold (Running.resultOf a)
+told-report a s e = sym (ap (λ (x : RunVerdict). told runTold (Running.resultOf x)) e)
+
+pub told-unrun : (a : RunVerdict) (n : ℕ) → a ≡ NotRun n → toldBy (Number n) ≡ told runTold (Running.resultOf a)
+told-unrun a n e = sym (ap (λ (x : RunVerdict). told runTold (Running.resultOf x)) e)
+
+-- ---- a listing
+pub told-text : (a : Listed) (n : ℕ) → a ≡ Text n → toldBy (One 0 n) ≡ told countTold (Listing.resultOf a)
+told-text a n e = sym (ap (λ (x : Listed). told countTold (Listing.resultOf x)) e)
+
+pub told-unlisted : (a : Listed) (n : ℕ) → a ≡ NotListed n → toldBy (Number n) ≡ told countTold (Listing.resultOf a)
+told-unlisted a n e = sym (ap (λ (x : Listed). told countTold (Listing.resultOf x)) e)

@@ -1,3 +1,4 @@
--- Each answer as a number, and the calls with it.
+-- Each result as C is told it, and the calls with it.
 pub mod Numbers
+pub mod Said
 pub mod Calls

@@ -1,4 +1,5 @@
 // A book from C: read into lent tables, its step lines one by one, its listing.
+use crate::tell::say;
 use crate::tell::tell_line;
 use crate::tell::tell_listed;
 use crate::tell::tell_read;
@@ -18,37 +19,28 @@ pub extern "C" fn cavewatch_read_book(
     counts: &mut [usize],
     ops: &mut [u8],
     nums: &mut [u64],
-    found: &mut [u64],
+    found: &mut [u64; 3],
 ) -> u64
     ensures { λ r. ⌜ ReadBook (now (text .entry)) (record { labels = now (labels .entry); lens = now (lens .entry); kinds = now (kinds .entry); firsts = now (firsts .entry); counts = now (counts .entry); ops = now (ops .entry); nums = now (nums .entry) }) (now (found .entry)) r (record { labels = now (labels .exit); lens = now (lens .exit); kinds = now (kinds .exit); firsts = now (firsts .exit); counts = now (counts .exit); ops = now (ops .exit); nums = now (nums .exit) }) (now (found .exit)) ⌝ }
 {
-    if found.len() < 3 {
-        return 1;
-    }
     let answer = read_book(text, labels, lens, kinds, firsts, counts, ops, nums);
-    tell_read(answer, found)
+    say(tell_read(answer), found)
 }
 
 // The step line at a place of the text.
 #[no_mangle]
-pub extern "C" fn cavewatch_next_step(text: &[u8], at: usize, found: &mut [u64]) -> u64
+pub extern "C" fn cavewatch_next_step(text: &[u8], at: usize, found: &mut [u64; 3]) -> u64
     ensures { λ r. ⌜ NextStep (now (text .entry)) at (now (found .entry)) r (now (found .exit)) ⌝ }
 {
     let line = next_step(text, at);
-    if found.len() < 3 {
-        return 1;
-    }
-    tell_line(line, found)
+    say(tell_line(line), found)
 }
 
 // Lists a whole book into a lent output of at least 262,144 bytes.
 #[no_mangle]
-pub extern "C" fn cavewatch_list_book(text: &[u8], out: &mut [u8], found: &mut [u64]) -> u64
+pub extern "C" fn cavewatch_list_book(text: &[u8], out: &mut [u8], found: &mut [u64; 3]) -> u64
     ensures { λ r. ⌜ ListBook (now (text .entry)) (now (out .entry)) (now (found .entry)) r (now (out .exit)) (now (found .exit)) ⌝ }
 {
-    if found.len() < 3 {
-        return 1;
-    }
     let answer = list_book(text, out);
-    tell_listed(answer, found)
+    say(tell_listed(answer), found)
 }

@@ -1,4 +1,4 @@
-// The calls for C and Rust over a static library (embed/cavewatch.h): numbers and slices only, and every lent length is tested here.
+// The calls for C and Rust over a static library (embed/cavewatch.h): numbers, slices and a pointer to three numbers.
 pub mod books;
 pub mod rule;
 pub mod tell;

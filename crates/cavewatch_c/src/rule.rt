@@ -1,4 +1,5 @@
 // A rule from C: compiled, and its monitor made and stepped in lent memory.
+use crate::tell::say;
 use crate::tell::tell_compiled;
 use crate::tell::tell_made;
 use crate::tell::tell_run;
@@ -17,15 +18,12 @@ pub extern "C" fn cavewatch_compile_rule(
     first: usize,
     count: usize,
     nodes: &mut [u64],
-    found: &mut [u64],
+    found: &mut [u64; 3],
 ) -> u64
     ensures { λ r. ⌜ CompileRule (now (ops .entry)) (now (nums .entry)) first count (now (nodes .entry)) (now (found .entry)) r (now (nodes .exit)) (now (found .exit)) ⌝ }
 {
-    if found.len() < 3 {
-        return 1;
-    }
     let answer = compile_formula(ops, nums, first, count, nodes);
-    tell_compiled(answer, found)
+    say(tell_compiled(answer), found)
 }
 
 // Makes the monitor of a compiled rule.
@@ -127,13 +125,10 @@ pub extern "C" fn cavewatch_run(
     culprits: &mut [i64],
     s: u64,
     words: &[u64],
-    found: &mut [u64],
+    found: &mut [u64; 3],
 ) -> u64
     ensures { λ r. ⌜ Run (record { ops = now (ops .entry); nums = now (nums .entry); first = first; count = count; nodes = now (nodes .entry); nfirst = nfirst; ncount = ncount }) (record { size = size; forms = now (forms .entry); bounds = now (bounds .entry); memory = record { held = now (held .entry); remaining = now (remaining .entry); failed = now (failed .entry); culprits = now (culprits .entry) } }) s (now (words .entry)) (now (found .entry)) r (record { held = now (held .exit); remaining = now (remaining .exit); failed = now (failed .exit); culprits = now (culprits .exit) }) (now (found .exit)) ⌝ }
 {
-    if found.len() < 3 {
-        return 1;
-    }
     let verdict = run(
         ops,
         nums,
@@ -152,5 +147,5 @@ pub extern "C" fn cavewatch_run(
         s,
         words,
     );
-    tell_run(verdict, found)
+    say(tell_run(verdict), found)
 }

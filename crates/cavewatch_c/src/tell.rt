@@ -1,4 +1,4 @@
-// Each answer as a number, its further numbers written to the front of `found`.
+// Each answer's result as a number, and the further numbers that go to the front of `found`.
 use compiler::Compiled;
 use listing::whole::Listed;
 use reader::read::Answer;
@@ -7,76 +7,80 @@ use runs::RunVerdict;
 use stepping::call::Verdict;
 use stepping::fresh::Outcome;
 ghost use mathlib.Core.Path.{_≡_};
-ghost use Prim.Native.Nat.{_≤_};
 ghost use mathlib.Core.Bool.{cond};
-ghost use mathlib.Core.List.{[], _∷_};
-ghost use lib.ListN.{length};
-ghost use lib.Seq.{sets};
-ghost use Rattle.cavewatch_c.specs.Numbers.{readNumber, readFound, lineNumber, lineFound, compiledNumber, compiledFound, madeNumber, verdictNumber, runNumber, runFound, listedNumber, listedFound};
-ghost use Rattle.cavewatch_c.specs.Calls.{Told};
+ghost use Rattle.reader.specs.Answer as Reading;
+ghost use Rattle.reader.specs.Steps as Steps;
+ghost use Rattle.compiler.specs.Compiled as Compiling;
+ghost use Rattle.stepping.specs.Call as Stepping;
+ghost use Rattle.stepping.specs.Fresh as Making;
+ghost use Rattle.runs.specs.Run as Running;
+ghost use Rattle.listing.specs.Lists as Listing;
+ghost use Rattle.cavewatch_c.specs.Numbers.{told, bookTold, lineTold, countTold, madeTold, stepTold, runTold};
+ghost use Rattle.cavewatch_c.specs.Said.{toldBy, Says, SmallLine};
 
-// The front of `found`, three numbers.
-fn three(found: &mut [u64], a: u64, b: u64, c: u64)
-    requires { ⌜ 3 ≤ length (now found) ⌝ }
-    ensures { λ _. ⌜ now (found .exit) ≡ sets (now (found .entry)) 0 (a ∷ b ∷ c ∷ []) ⌝ }
-{
-    found[0] = a;
-    found[1] = b;
-    found[2] = c;
+// A number alone; a number and one further; three further ones, the number being 0.
+pub enum Said {
+    Number(u64),
+    One(u64, u64),
+    Three(u64, u64, u64),
 }
 
-pub fn tell_read(answer: Answer, found: &mut [u64]) -> u64
-    requires { ⌜ 3 ≤ length (now found) ⌝ }
-    ensures { λ r. ⌜ Told (readNumber answer) (readFound answer) (now (found .entry)) r (now (found .exit)) ⌝ }
+// The number is answered, the further ones are written.
+pub fn say(said: Said, found: &mut [u64; 3]) -> u64
+    ensures { λ r. ⌜ Says (toldBy said) (now (found .entry)) r (now (found .exit)) ⌝ }
+{
+    match said {
+        Said::Number(n) => {
+            return n;
+        }
+        Said::One(n, a) => {
+            found[0] = a;
+            return n;
+        }
+        Said::Three(a, b, c) => {
+            found[0] = a;
+            found[1] = b;
+            found[2] = c;
+            return 0;
+        }
+    }
+}
+
+// A refusal's number and line are one number.
+pub fn tell_read(answer: Answer) -> Said
+    requires { ⌜ SmallLine answer ⌝ }
+    ensures { λ r. ⌜ toldBy r ≡ bookTold (Reading.resultOf answer) ⌝ }
 {
     match answer {
         Answer::Read {
             rules,
             nodes,
             steps_at,
-        } => {
-            three(found, rules as u64, nodes as u64, steps_at as u64);
-            return 0;
-        }
-        Answer::Refused { number, line } => {
-            found[0] = line as u64;
-            return number as u64;
-        }
+        } => Said::Three(rules as u64, nodes as u64, steps_at as u64),
+        Answer::Refused { number, line } => Said::Number(number as u64 + 256 * line as u64),
     }
 }
 
-pub fn tell_line(line: StepRead, found: &mut [u64]) -> u64
-    requires { ⌜ 3 ≤ length (now found) ⌝ }
-    ensures { λ r. ⌜ Told (lineNumber line) (lineFound line) (now (found .entry)) r (now (found .exit)) ⌝ }
+pub fn tell_line(line: StepRead) -> Said
+    ensures { λ r. ⌜ toldBy r ≡ told lineTold (Steps.resultOf line) ⌝ }
 {
     match line {
-        StepRead::Step { step, truths, next } => {
-            three(found, step, truths, next as u64);
-            return 0;
-        }
-        StepRead::End => {
-            return 101;
-        }
+        StepRead::Step { step, truths, next } => Said::Three(step, truths, next as u64),
+        StepRead::End => Said::Number(101),
     }
 }
 
-pub fn tell_compiled(answer: Compiled, found: &mut [u64]) -> u64
-    requires { ⌜ 3 ≤ length (now found) ⌝ }
-    ensures { λ r. ⌜ Told (compiledNumber answer) (compiledFound answer) (now (found .entry)) r (now (found .exit)) ⌝ }
+pub fn tell_compiled(answer: Compiled) -> Said
+    ensures { λ r. ⌜ toldBy r ≡ told countTold (Compiling.resultOf answer) ⌝ }
 {
     match answer {
-        Compiled::Nodes(n) => {
-            found[0] = n as u64;
-            return 0;
-        }
-        Compiled::Refused(n) => {
-            return n;
-        }
+        Compiled::Nodes(n) => Said::One(0, n as u64),
+        Compiled::Refused(n) => Said::Number(n),
     }
 }
 
 pub fn tell_made(outcome: Outcome) -> u64
-    ensures { λ r. ⌜ r ≡ madeNumber outcome ⌝ }
+    ensures { λ r. ⌜ r ≡ told madeTold (Making.resultOf outcome) .number ⌝ }
 {
     match outcome {
         Outcome::Made(_) => 0,
@@ -94,7 +98,7 @@ fn report_code(newly: bool) -> u64
 }
 
 pub fn tell_verdict(verdict: Verdict) -> u64
-    ensures { λ r. ⌜ r ≡ verdictNumber verdict ⌝ }
+    ensures { λ r. ⌜ r ≡ told stepTold (Stepping.resultOf verdict) .number ⌝ }
 {
     match verdict {
         Verdict::Accepted(newly) => report_code(newly),
@@ -102,35 +106,21 @@ pub fn tell_verdict(verdict: Verdict) -> u64
     }
 }
 
-pub fn tell_run(verdict: RunVerdict, found: &mut [u64]) -> u64
-    requires { ⌜ 3 ≤ length (now found) ⌝ }
-    ensures { λ r. ⌜ Told (runNumber verdict) (runFound verdict) (now (found .entry)) r (now (found .exit)) ⌝ }
+pub fn tell_run(verdict: RunVerdict) -> Said
+    ensures { λ r. ⌜ toldBy r ≡ told runTold (Running.resultOf verdict) ⌝ }
 {
     match verdict {
-        RunVerdict::Quiet => {
-            return 0;
-        }
-        RunVerdict::Reported(s) => {
-            found[0] = s;
-            return 100;
-        }
-        RunVerdict::Refused(n) => {
-            return n;
-        }
+        RunVerdict::Quiet => Said::Number(0),
+        RunVerdict::Reported(s) => Said::One(100, s),
+        RunVerdict::Refused(n) => Said::Number(n),
     }
 }
 
-pub fn tell_listed(answer: Listed, found: &mut [u64]) -> u64
-    requires { ⌜ 3 ≤ length (now found) ⌝ }
-    ensures { λ r. ⌜ Told (listedNumber answer) (listedFound answer) (now (found .entry)) r (now (found .exit)) ⌝ }
+pub fn tell_listed(answer: Listed) -> Said
+    ensures { λ r. ⌜ toldBy r ≡ told countTold (Listing.resultOf answer) ⌝ }
 {
     match answer {
-        Listed::Text(n) => {
-            found[0] = n as u64;
-            return 0;
-        }
-        Listed::Refused(n) => {
-            return n;
-        }
+        Listed::Text(n) => Said::One(0, n as u64),
+        Listed::Refused(n) => Said::Number(n),
     }
 }

@@ -38,7 +38,7 @@ use Rattle.monitor.specs.Compile.{when, unless, consequent, faults, implication
 use Rattle.monitor.proofs.Rows.{expr-zero, expr-some, row-range, row-delayed, row-owed, row-and, row-or}
 use Rattle.monitor.proofs.Parts.{no-part}
 use Rattle.monitor.proofs.Holds.{held}
-use Rattle.compiler.specs.declared.Compiled.the-variants.{Nodes, Refused as NotCompiled}
+use Rattle.result.specs.Result.{given, refused}
 use Rattle.compiler.specs.Compiled.{firstOr, compileFormula, orShort, compileCall}
 use Rattle.compiler.proofs.Joining.{count-size, rows-length}
 
@@ -349,17 +349,17 @@ pub record Reads (ops nums : List ℕ) (first count′ : ℕ) (out : List ℕ) (
   pub counted : n ≡ count (ruleNode formula first)
   pub reads : compiledOf ops nums first count′ out 0 n ≡ some (ruleNode formula first)
 
-nodes-inj : {a b : ℕ} → Nodes a ≡ Nodes b → a ≡ b
+nodes-inj : {a b : ℕ} → given a ≡ given b → a ≡ b
 nodes-inj e = cc
 
-pub not-nodes : {B : Type 0} (k n : ℕ) → NotCompiled k ≡ Nodes n → B
+pub not-nodes : {B : Type 0} (k n : ℕ) → refused k ≡ given n → B
 not-nodes k n e = let z : _≡_ {A = ℕ} 0 1 = cc in absurd (omega arith)
 
-pub compiled-reads : (ops nums : List ℕ) (first count′ : ℕ) (out : List ℕ) (n : ℕ) → compileCall ops nums first count′ out .answer ≡ Nodes n → Reads ops nums first count′ (compileCall ops nums first count′ out .out) n
+pub compiled-reads : (ops nums : List ℕ) (first count′ : ℕ) (out : List ℕ) (n : ℕ) → compileCall ops nums first count′ out .answer ≡ given n → Reads ops nums first count′ (compileCall ops nums first count′ out .out) n
 unfolding compileCall
 compiled-reads ops nums first count′ out n = short (roomy ops nums && leb 1792 (length out)) refl
   where
-    walked : (f : Formula) → ruleOf ops nums first count′ ≡ some f → 1792 ≤ length out → (fs : List ℕ) → ruleFaults f ≡ fs → firstOr fs (ruleNode f first) out .answer ≡ Nodes n → Reads ops nums first count′ (firstOr fs (ruleNode f first) out .out) n
+    walked : (f : Formula) → ruleOf ops nums first count′ ≡ some f → 1792 ≤ length out → (fs : List ℕ) → ruleFaults f ≡ fs → firstOr fs (ruleNode f first) out .answer ≡ given n → Reads ops nums first count′ (firstOr fs (ruleNode f first) out .out) n
     walked f e h [] w q =
         let c : n ≡ count (ruleNode f first) = sym (nodes-inj q) in
         record {
@@ -371,10 +371,10 @@ compiled-reads ops nums first count′ out n = short (roomy ops nums && leb 1792
         }
     walked f e h (k ∷ ks) w q = not-nodes k n q
 
-    ruled : (o : Option Formula) → ruleOf ops nums first count′ ≡ o → 1792 ≤ length out → compileFormula o first out .answer ≡ Nodes n → Reads ops nums first count′ (compileFormula o first out .out) n
+    ruled : (o : Option Formula) → ruleOf ops nums first count′ ≡ o → 1792 ≤ length out → compileFormula o first out .answer ≡ given n → Reads ops nums first count′ (compileFormula o first out .out) n
     ruled none e h q = not-nodes 2 n q
     ruled (some f) e h q = walked f e h (ruleFaults f) refl q
 
-    short : (b : Bool) → (roomy ops nums && leb 1792 (length out)) ≡ b → orShort b out (compileFormula (ruleOf ops nums first count′) first out) .answer ≡ Nodes n → Reads ops nums first count′ (orShort b out (compileFormula (ruleOf ops nums first count′) first out) .out) n
+    short : (b : Bool) → (roomy ops nums && leb 1792 (length out)) ≡ b → orShort b out (compileFormula (ruleOf ops nums first count′) first out) .answer ≡ given n → Reads ops nums first count′ (orShort b out (compileFormula (ruleOf ops nums first count′) first out) .out) n
     short true w q = ruled (ruleOf ops nums first count′) refl (leb-true 1792 (length out) (both-true (roomy ops nums) _ w .1)) q
     short false w q = not-nodes 1 n q

@@ -12,6 +12,7 @@ use lib.Seq.{sets, sets-eq, length-sets, take-at}
 use borrow.Author.Tests.{le-leb, lt-leb}
 use mir.Syntax.{w64}
 use mir.Val.{Fits}
+use Rattle.result.specs.Result.{given}
 use Rattle.formula.specs.Tree.{size}
 use Rattle.formula.specs.Formula.{Formula}
 use Rattle.formula.specs.Table.{Rule, IsRule, ruleOf, roomy, isSome}
@@ -24,7 +25,7 @@ use Rattle.compiler.specs.declared.Compiled.the-variants.{Nodes, Refused
 use Rattle.monitor.specs.Range.{allOf, Shiftable}
 use Rattle.monitor.specs.Mon.{Mon, count, rows}
 use Rattle.monitor.specs.Compile.{faults, node, ruleFaults, ruleNode}
-use Rattle.compiler.specs.Compiled.{Ready, LaidAt, CompiledAt, Call, Answers, firstOr, compileFormula, ruleCall, compileCall, orShort, refuse, refusedAs}
+use Rattle.compiler.specs.Compiled.{Ready, LaidAt, CompiledAt, Call, Answers, resultOf, firstOr, compileFormula, ruleCall, compileCall, orShort, refuse, refusedAs}
 use Rattle.compiler.proofs.Joining.{laid-upto, laid-no, rows-length, count-size}
 
 pub refused-as : (l : Laid) (n : ℕ) → l ≡ Refused n → NotCompiled n ≡ refusedAs l
@@ -61,7 +62,7 @@ module _ (ops nums : List ℕ) (first count′ : ℕ) (u : IsRule ops nums first
     rule-refused k out res q w =
         let (ns, p) = laid-no (ruleFaults (u .formula)) (ruleNode (u .formula) first) 0 (first + size (u .formula)) k z z′ l laid q in
         let s : ruleCall ops nums first count′ out ≡ refuse k out = called out ∙ ap (λ (x : List ℕ). firstOr x (ruleNode (u .formula) first) out) p in
-        record { answers = w ∙ ap refusedAs q ∙ sym (ap (λ (x : Call). x .answer) s); leaves = sym (ap (λ (x : Call). x .out) s) }
+        record { answers = ap resultOf (w ∙ ap refusedAs q) ∙ sym (ap (λ (x : Call). x .answer) s); leaves = sym (ap (λ (x : Call). x .out) s) }
 
     module _ (n b : ℕ) (q : l ≡ Upto n b) where
       known : (ruleFaults (u .formula) ≡ []) × (n ≡ 0 + count (ruleNode (u .formula) first)) × (b ≡ first + size (u .formula)) × (z′ ≡ sets z 0 (rows (ruleNode (u .formula) first)))
@@ -82,12 +83,12 @@ module _ (ops nums : List ℕ) (first count′ : ℕ) (u : IsRule ops nums first
       pub rule-compiled : (out out′ : List ℕ) → 1792 ≤ length z → out′ ≡ sets out 0 (take (7 * n) z′) → Answers (ruleCall ops nums first count′ out) (Nodes n) out′
       rule-compiled out out′ h w =
           let m = ruleNode (u .formula) first in
-          let s : ruleCall ops nums first count′ out ≡ record { answer = Nodes (count m); out = sets out 0 (rows m) } = called out ∙ ap (λ (x : List ℕ). firstOr x m out) (known .0) in
+          let s : ruleCall ops nums first count′ out ≡ record { answer = given (count m); out = sets out 0 (rows m) } = called out ∙ ap (λ (x : List ℕ). firstOr x m out) (known .0) in
           let i : n ≡ count m = known .1 ∙ zero-add (count m) in
           let j : 7 * n ≡ length (rows m) = omega (arith, rows-length m) in
           let k : take (7 * n) z′ ≡ rows m =
           ap₂ take j (known .3) ∙ take-sets z (rows m) (omega (arith, rows-length m, few-nodes)) in
-          record { answers = ap Nodes i ∙ sym (ap (λ (x : Call). x .answer) s); leaves = w ∙ ap (sets out 0) k ∙ sym (ap (λ (x : Call). x .out) s) }
+          record { answers = ap given i ∙ sym (ap (λ (x : Call). x .answer) s); leaves = w ∙ ap (sets out 0) k ∙ sym (ap (λ (x : Call). x .out) s) }
 
 -- ---- the tests before the walk
 module _ (ops nums : List ℕ) (first count′ : ℕ) (out : List ℕ) where

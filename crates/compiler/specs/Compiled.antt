@@ -1,6 +1,7 @@
 -- What the compiler answers and leaves in the lent output.
 --     CompiledAt     the walk at one place
---     compileCall    the whole call: document 01's number or the count of nodes, and the output afterwards
+--     resultOf       document 01's result of the answer enum
+--     compileCall    the whole call: document 01's result, the count of nodes, and the output afterwards
 use mathlib.Core.Bool.{Bool, true, false, _&&_}
 use mathlib.Core.List.{List, [], _∷_}
 use mathlib.Core.Option.{Option, none, some}
@@ -9,6 +10,7 @@ use Prim.Native.Nat.{ℕ, _+_, _*_, _≤_}
 use lib.Dec.{leb}
 use lib.ListN.{length, getD}
 use lib.Seq.{sets}
+use Rattle.result.specs.Result.{Result, given, refused}
 use Rattle.formula.specs.Tree.{size}
 use Rattle.formula.specs.Spells.{Spells}
 use Rattle.formula.specs.Formula.{Formula}
@@ -45,16 +47,21 @@ pub record CompiledAt (ops nums : List ℕ) (i : ℕ) (range : AnchorRange) (tem
   pub is : (f : Formula) → Spells (nodeAt ops nums) i f → LaidAt (faults f temporal) (node f i range temporal) at (i + size f) out out′ r
 
 -- ---- the whole call
+-- document 01's result of an answer: the count of nodes, or the refusal
+abbrev pub resultOf : Compiled → Result ℕ
+resultOf (Nodes n) = given n
+resultOf (NotCompiled n) = refused n
+
 pub record Call : Type 0 where
-  pub answer : Compiled
+  pub answer : Result ℕ
   pub out : List ℕ
 
 abbrev pub refuse : ℕ → List ℕ → Call
-refuse n out = record { answer = NotCompiled n; out = out }
+refuse n out = record { answer = refused n; out = out }
 
 -- the first refusal of the walk, or the nodes from the output's start on; what lies behind them stays
 abbrev pub firstOr : List ℕ → Mon → List ℕ → Call
-firstOr [] m out = record { answer = Nodes (count m); out = sets out 0 (rows m) }
+firstOr [] m out = record { answer = given (count m); out = sets out 0 (rows m) }
 firstOr (n ∷ ns) m out = refuse n out
 
 abbrev pub compileFormula : Option Formula → ℕ → List ℕ → Call
@@ -75,13 +82,8 @@ compileCall ops nums first count out =
 
 -- the answer and the output afterwards are those of the call
 pub record Answers (c : Call) (r : Compiled) (out : List ℕ) : Type 0 where
-  pub answers : r ≡ c .answer
+  pub answers : resultOf r ≡ c .answer
   pub leaves : out ≡ c .out
-
--- document 01's number of an answer: 0 where the rule compiles
-abbrev pub refusalOf : Compiled → ℕ
-refusalOf (Nodes n) = 0
-refusalOf (NotCompiled n) = n
 
 abbrev pub refusedAs : Laid → Compiled
 refusedAs (Refused n) = NotCompiled n

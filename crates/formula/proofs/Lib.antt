@@ -4,5 +4,6 @@ pub mod Trees
 pub mod Nodes
 pub mod Walks
 pub mod Rules
+pub mod Local
 pub mod Places
 pub mod Signals

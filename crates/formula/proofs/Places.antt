@@ -10,7 +10,8 @@ use Rattle.formula.specs.Tree.{leaf, one, two, leaf-of, one-of, two-of, 
 use Rattle.formula.specs.Spells.{Spells}
 use Rattle.formula.specs.Formula.{Atom, Unary, Binary, Formula, signal}
 use Rattle.formula.specs.Table.{nodeAt, Placed}
-use Rattle.formula.proofs.Trees.{size-pos}
+use Rattle.formula.specs.Signal.{signalNodes}
+use Rattle.formula.proofs.Trees.{size-pos, nodes-at}
 use Rattle.formula.proofs.Nodes.{spells-leaf, spells-one, spells-two, spells-unknown, node-leaf, node-one, node-two, node-unknown}
 
 module _ (ops nums : List ℕ) (i : ℕ) where
@@ -66,7 +67,33 @@ module _ (ops nums : List ℕ) (i : ℕ) where
         let n : m ≡ i + 1 + size l = k l s in
         record { formula = r; spells = subst (λ (j : ℕ). Spells (nodeAt ops nums) j r) (sym n) u; in-ops = omega (arith, p .in-ops); in-nums = omega (arith, p .in-nums) }
 
-    -- fewer places are left behind i, the measure of the walks
+    -- the count of the nodes of the formula at i falls to its operands': the measure of the walks over signals
+    nodes-there : signalNodes ops nums i ≡ size (p .formula)
+    nodes-there = nodes-at (nodeAt ops nums) i (length ops) (p .formula) (p .spells) (omega (arith, p .in-ops))
+
+    pub fewer-one : 3 ≤ getD ops i 0 → getD ops i 0 < 9 → (t : ℕ) → signalNodes ops nums i ≡ t → signalNodes ops nums (i + 1) < t
+    unfolding size
+    fewer-one h k t q =
+        let (o, g, e, z, s) = one-there (p .formula) (p .spells) h k in
+        let y : size (p .formula) ≡ 1 + size g = ap (λ (x : Formula). size x) z in
+        omega (arith, nodes-there, nodes-at (nodeAt ops nums) (i + 1) (length ops) g s (omega (arith, p .in-ops)))
+
+    pub fewer-left : 9 ≤ getD ops i 0 → (t : ℕ) → signalNodes ops nums i ≡ t → signalNodes ops nums (i + 1) < t
+    unfolding size
+    fewer-left h t q =
+        let (o, l, r, e, z, s, u) = two-there (p .formula) (p .spells) h in
+        let y : size (p .formula) ≡ 1 + size l + size r = ap (λ (x : Formula). size x) z in
+        omega (arith, nodes-there, nodes-at (nodeAt ops nums) (i + 1) (length ops) l s (omega (arith, p .in-ops)))
+
+    pub fewer-right : (m : ℕ) → 9 ≤ getD ops i 0 → ((f : Formula) → Spells (nodeAt ops nums) (i + 1) f → m ≡ i + 1 + size f) → (t : ℕ) → signalNodes ops nums i ≡ t → signalNodes ops nums m < t
+    unfolding size
+    fewer-right m h k t q =
+        let (o, l, r, e, z, s, u) = two-there (p .formula) (p .spells) h in
+        let y : size (p .formula) ≡ 1 + size l + size r = ap (λ (x : Formula). size x) z in
+        let v : Spells (nodeAt ops nums) m r = subst (λ (j : ℕ). Spells (nodeAt ops nums) j r) (sym (k l s)) u in
+        omega (arith, nodes-there, nodes-at (nodeAt ops nums) m (length ops) r v (omega (arith, p .in-ops)))
+
+    -- fewer places are left behind i, the measure of the other walks
     pub falls-next : (t : ℕ) → length ops - i ≡ t → length ops - (i + 1) < t
     falls-next t h = omega (arith, in-ops)
 

@@ -22,7 +22,7 @@ module _ (ops nums : List ℕ) (first count : ℕ) where
   pub rule-of : (f : Formula) → Rule ops nums first count f → ruleOf ops nums first count ≡ some f
   unfolding ruleOf
   rule-of f u =
-      rw (le-leb count 256 (u .few), le-leb (first + count) (length ops) (u .in-ops), le-leb (first + count) (length nums) (u .in-nums))
+      rw (le-leb count 256 (u .few), le-leb (first + count) 1024 (u .in-table), le-leb (first + count) (length ops) (u .in-ops), le-leb (first + count) (length nums) (u .in-nums))
       (ap limited (ap (λ (n : ℕ). treeOf (run (nodeAt ops nums) first n)) (sym (u .covers)) ∙ spells-tree (nodeAt ops nums) first f (u .spells))
       ∙ ap (λ (b : Bool). keep b (some f)) (ap₂ _&&_ (le-leb (depth f) 64 (u .shallow)) (u .in-word)))
 
@@ -42,10 +42,11 @@ module _ (ops nums : List ℕ) (first count : ℕ) where
   rule-inv f e =
       let (b, p) = keep-inv (inTable ops nums first count) _ f e in
       let (c, d) = both-true (leb count 256) _ b in
-      let (m, n) = both-true (leb (first + count) (length ops)) _ d in
+      let (t, l) = both-true (leb (first + count) 1024) _ d in
+      let (m, n) = both-true (leb (first + count) (length ops)) _ l in
       let (o, w, v) = limited-inv _ f p in
       let (s, z) = tree-spells (nodeAt ops nums) first count f o in
-      record { few = leb-true _ _ c; in-ops = leb-true _ _ m; in-nums = leb-true _ _ n; spells = s; covers = z; shallow = w; in-word = v }
+      record { few = leb-true _ _ c; in-table = leb-true _ _ t; in-ops = leb-true _ _ m; in-nums = leb-true _ _ n; spells = s; covers = z; shallow = w; in-word = v }
 
   -- what is no rule has no formula
   none-is : ((f : Formula) → Rule ops nums first count f → ⊥) → false ≡ isSome (ruleOf ops nums first count)
@@ -58,11 +59,11 @@ module _ (ops nums : List ℕ) (first count : ℕ) where
   pub too-many : 256 < count → false ≡ isSome (ruleOf ops nums first count)
   too-many h = none-is (λ f u. omega arith)
 
-  pub past-ops : length ops < count → false ≡ isSome (ruleOf ops nums first count)
-  past-ops h = none-is (λ f u. omega arith)
+  pub past-table : 1024 - count < first → false ≡ isSome (ruleOf ops nums first count)
+  past-table h = none-is (λ f u. omega arith)
 
-  pub past-ops-from : length ops - count < first → count ≤ length ops → false ≡ isSome (ruleOf ops nums first count)
-  past-ops-from h g = none-is (λ f u. omega arith)
+  pub past-ops : length ops < first + count → false ≡ isSome (ruleOf ops nums first count)
+  past-ops h = none-is (λ f u. omega arith)
 
   pub past-nums : length nums < first + count → false ≡ isSome (ruleOf ops nums first count)
   past-nums h = none-is (λ f u. omega arith)
@@ -79,10 +80,10 @@ module _ (ops nums : List ℕ) (first count : ℕ) where
       let m : t ≡ f = spells-unique (nodeAt ops nums) first t f (s .spells) (u .spells) in
       n (omega (arith, ap (λ (x : Formula). size x) m))
 
-  pub whole : (r : Walk) (e : ℕ) → Walked (nodeAt ops nums) inWord first (first + count) 64 r → r ≡ Upto e → e ≡ first + count → count ≤ 256 → count ≤ length ops → first ≤ length ops - count → first + count ≤ length nums → true ≡ isSome (ruleOf ops nums first count)
+  pub whole : (r : Walk) (e : ℕ) → Walked (nodeAt ops nums) inWord first (first + count) 64 r → r ≡ Upto e → e ≡ first + count → count ≤ 256 → first ≤ 1024 - count → first + count ≤ length ops → first + count ≤ length nums → true ≡ isSome (ruleOf ops nums first count)
   whole r e w q n a g b c =
       let (t, s) = w .found e q in
-      let u : Rule ops nums first count t = record { few = a; in-ops = omega arith; in-nums = c; spells = s .spells; covers = omega arith; shallow = s .shallow; in-word = s .good } in
+      let u : Rule ops nums first count t = record { few = a; in-table = omega arith; in-ops = b; in-nums = c; spells = s .spells; covers = omega arith; shallow = s .shallow; in-word = s .good } in
       sym (ap isSome (rule-of t u))
 
 pub short-ops : (ops nums : List ℕ) → length ops < 1024 → false ≡ roomy ops nums

@@ -14,7 +14,7 @@ use Rattle.formula.specs.Spells.{Spells}
 use Rattle.formula.specs.Formula.{Atom, Unary, Binary, Formula, Node, node, signal, not, next, always, eventually, always-for, within, and, or, implies, until}
 use Rattle.formula.specs.Table.{nodeAt, inWord, Placed}
 use Rattle.formula.specs.Pure.{pure, value, joined, bit}
-use Rattle.formula.specs.Signal.{endIf, Purely, Signalled, Valued}
+use Rattle.formula.specs.Signal.{endIf, Purely, Signalled, Valued, signalNodes}
 use Rattle.formula.specs.declared.table.Walk.{Walk}
 use Rattle.formula.specs.declared.table.Walk.the-variants.{Upto, Stuck}
 use Rattle.formula.specs.declared.signal.Value.{Value}
@@ -22,7 +22,7 @@ use Rattle.formula.proofs.Cases.{below-or, true-false}
 use Rattle.formula.proofs.Trees.{spells-unique}
 use Rattle.formula.proofs.Nodes.{numberOf, unary-number, binary-number}
 use Rattle.formula.proofs.Walks.{both-true, stuck-upto, upto-inj}
-use Rattle.formula.proofs.Places.{leaf-there, one-there, two-there, in-ops, in-nums, placed-one, placed-left, placed-right, falls-right}
+use Rattle.formula.proofs.Places.{leaf-there, one-there, two-there, in-ops, in-nums, placed-one, placed-left, placed-right, fewer-one, fewer-left, fewer-right}
 
 -- ---- purity
 pure-one : (o : Unary) (f : Formula) → numberOf (one-of o) ≡ 3 → pure (one o f) ≡ pure f
@@ -135,12 +135,15 @@ module _ (ops nums : List ℕ) (i : ℕ) where
   pub placed-not : Placed ops nums i → 3 ≤ getD ops i 0 → getD ops i 0 < 4 → Placed ops nums (i + 1)
   placed-not p h k = placed-one ops nums i p h (omega arith)
 
+  pub fewer-not : Placed ops nums i → 3 ≤ getD ops i 0 → getD ops i 0 < 4 → (t : ℕ) → signalNodes ops nums i ≡ t → signalNodes ops nums (i + 1) < t
+  fewer-not p h k t q = fewer-one ops nums i p h (omega arith) t q
+
   module _ (p : Placed ops nums i) (left : Walk) (e : ℕ) (h : 9 ≤ getD ops i 0) (k : getD ops i 0 < 12) (q : Purely ops nums (i + 1) left) (z : left ≡ Upto e) where
     pub placed-behind : Placed ops nums e
     placed-behind = placed-right ops nums i p e h (purely-end left h k q e z)
 
-    pub falls-behind : (t : ℕ) → length ops - i ≡ t → length ops - e < t
-    falls-behind t m = falls-right ops nums i p e t (placed-left ops nums i p h) (purely-end left h k q e z) m
+    pub fewer-behind : (t : ℕ) → signalNodes ops nums i ≡ t → signalNodes ops nums e < t
+    fewer-behind t m = fewer-right ops nums i p e h (purely-end left h k q e z) t m
 
 -- ---- values
 module _ (op : ℕ) (l r : Bool) where
@@ -227,8 +230,12 @@ module _ (ops nums : List ℕ) (i : ℕ) (g : Signalled ops nums i) where
   pub sig-next : 3 ≤ getD ops i 0 → Signalled ops nums (i + 1)
   sig-next h = ⊎-elim (λ k. sig-not h k) (λ k. sig-left k) (below-or (getD ops i 0) 9)
 
-  pub sig-falls : (t : ℕ) → 3 * (length ops - i) ≡ t → 3 * (length ops - (i + 1)) + 2 < t
-  sig-falls t h = omega (arith, sig-in-ops)
+  -- the measure of the walk, three for each node of the signal, falls
+  pub sig-falls : 3 ≤ getD ops i 0 → (t : ℕ) → 3 * signalNodes ops nums i ≡ t → 3 * signalNodes ops nums (i + 1) + 2 < t
+  sig-falls h t q = ⊎-elim
+      (λ k. omega (arith, fewer-one ops nums i (g .place) h k _ refl))
+      (λ k. omega (arith, fewer-left ops nums i (g .place) k _ refl))
+      (below-or (getD ops i 0) 9)
 
   -- past `not` the other pure words have two operands
   pub two-words : 4 ≤ getD ops i 0 → 9 ≤ getD ops i 0
@@ -255,10 +262,8 @@ module _ (ops nums : List ℕ) (i : ℕ) (g : Signalled ops nums i) where
           in-word = both-true (all inWord l) (all inWord r) (sym (ap (all inWord) e) ∙ g .in-word) .1;
         }
 
-    pub sig-falls-right : (t : ℕ) → 3 * (length ops - i) ≡ t → 3 * (length ops - v .end) + 2 < t
-    sig-falls-right t q =
-        let s = sig-left (two-words h) in
-        omega (arith, sig-in-ops, x .is (s .place .formula) (s .place .spells) .1)
+    pub sig-falls-right : (t : ℕ) → 3 * signalNodes ops nums i ≡ t → 3 * signalNodes ops nums (v .end) + 2 < t
+    sig-falls-right t q = omega (arith, fewer-right ops nums i (g .place) (v .end) (two-words h) (λ f u. x .is f u .1) _ refl)
 
     pub valued-two : (y : Value) (b : Bool) → Valued ops nums (v .end) w y → b ≡ joined (getD ops i 0) (v .value) (y .value) → Valued ops nums i w (record { value = b; end = y .end })
     unfolding size nodeAt

@@ -2,13 +2,13 @@
 use mathlib.Core.Path.{_≡_, refl, sym, ap, ap₂, subst, _∙_}
 use mathlib.Core.List.{List, [], _∷_, _++_, append-assoc, append-nil}
 use mathlib.Core.Option.{Option, none, some}
-use Prim.Native.Nat.{ℕ, zero, suc, _+_, _≤_, _<_}
+use Prim.Native.Nat.{ℕ, zero, suc, _+_, _-_, _≤_, _<_}
 use native.Mathlib.Omega.{arith}
 use native.Mathlib.Numerals.{add-one, one-add}
 use native.Mathlib.Nat.{suc-add, add-suc, add-assoc, add-zero}
 use lib.ListN.{length, length-append}
 use Rattle.formula.specs.Tree.{Tree, leaf, one, two, Token, leaf-of, one-of, two-of, unknown, size, depth, prefix, push, forest, single, treeOf}
-use Rattle.formula.specs.Spells.{run, Spells}
+use Rattle.formula.specs.Spells.{run, Spells, due, reach, nodesAt}
 use Rattle.formula.proofs.Nodes.{spells-leaf, spells-one, spells-two}
 
 pub some-inj : {A : Type 0} {a b : A} → some a ≡ some b → a ≡ b
@@ -169,3 +169,37 @@ module _ {L O T : Type 0} where
       let (l′, r′, e, a, b) = spells-two tok i o u (s .0) p in
       let m : l ≡ l′ = spells-unique tok (i + 1) l l′ (s .1) a in
       ap₂ (two o) m (spells-unique tok (i + 1 + size l) r r′ (s .2) (subst (λ (x : Tree L O T). Spells tok (i + 1 + size x) r′) (sym m) b)) ∙ sym e
+
+  -- ---- how many nodes the tree at a place has
+  none-due : (tok : ℕ → Token L O T) (i n : ℕ) → reach tok i n 0 ≡ 0
+  unfolding reach
+  none-due tok i zero = refl
+  none-due tok i (suc n) = refl
+
+  -- a tree that is due takes its own tokens
+  reach-tree : (tok : ℕ → Token L O T) (t : Tree L O T) (i k n d : ℕ) → Spells tok i t → k ≡ size t + n → reach tok i k (suc d) ≡ size t + reach tok (i + size t) n d
+  unfolding reach Spells size
+  reach-tree tok (leaf a) i zero n d s q = absurd (omega arith)
+  reach-tree tok (leaf a) i (suc k) n d s q =
+      let e : k ≡ n = omega arith in
+      ap₂ (λ (x : Token L O T) (j : ℕ). 1 + reach tok (i + 1) j (due x d)) s e
+  reach-tree tok (one o t) i zero n d s q = absurd (omega arith)
+  reach-tree tok (one o t) i (suc k) n d s q =
+      let z : i + 1 + size t ≡ i + (1 + size t) = omega arith in
+      ap (λ (x : Token L O T). 1 + reach tok (i + 1) k (due x d)) (s .0)
+      ∙ ap (1 +_) (reach-tree tok t (i + 1) k n d (s .1) (omega arith))
+      ∙ sym (add-assoc 1 (size t) _)
+      ∙ ap (λ (j : ℕ). 1 + size t + reach tok j n d) z
+  reach-tree tok (two o l r) i zero n d s q = absurd (omega arith)
+  reach-tree tok (two o l r) i (suc k) n d s q =
+      let z : i + 1 + size l + size r ≡ i + (1 + size l + size r) = omega arith in
+      ap (λ (x : Token L O T). 1 + reach tok (i + 1) k (due x d)) (s .0)
+      ∙ ap (1 +_) (reach-tree tok l (i + 1) k (size r + n) (suc d) (s .1) (omega arith) ∙ ap (size l +_) (reach-tree tok r (i + 1 + size l) (size r + n) n d (s .2) refl))
+      ∙ sym (add-assoc 1 (size l) _)
+      ∙ sym (add-assoc (1 + size l) (size r) _)
+      ∙ ap (λ (j : ℕ). 1 + size l + size r + reach tok j n d) z
+
+  pub nodes-at : (tok : ℕ → Token L O T) (i n : ℕ) (t : Tree L O T) → Spells tok i t → size t ≤ n → nodesAt tok n i ≡ size t
+  nodes-at tok i n t s h =
+      let q : n ≡ size t + (n - size t) = omega arith in
+      reach-tree tok t i n (n - size t) 0 s q ∙ ap (size t +_) (none-due tok (i + size t) (n - size t)) ∙ add-zero (size t)

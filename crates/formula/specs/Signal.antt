@@ -3,8 +3,9 @@ use mathlib.Core.Bool.{Bool, true, false}
 use mathlib.Core.List.{List}
 use mathlib.Core.Path.{_≡_}
 use Prim.Native.Nat.{ℕ, _+_}
+use lib.ListN.{length}
 use Rattle.formula.specs.Tree.{size, all}
-use Rattle.formula.specs.Spells.{Spells}
+use Rattle.formula.specs.Spells.{Spells, nodesAt}
 use Rattle.formula.specs.Formula.{Formula}
 use Rattle.formula.specs.Table.{nodeAt, inWord, Placed}
 use Rattle.formula.specs.Pure.{pure, value}
@@ -29,3 +30,7 @@ pub record Purely (ops nums : List ℕ) (i : ℕ) (r : Walk) : Type 0 where
 -- what evaluating the pure formula at i answers: its value, and where it ends
 pub record Valued (ops nums : List ℕ) (i w : ℕ) (v : Value) : Type 0 where
   pub is : (f : Formula) → Spells (nodeAt ops nums) i f → (v .value ≡ value f w) × (v .end ≡ i + size f)
+
+-- the formula at i and below: the count of its nodes, which falls from a walk to its calls
+abbrev pub signalNodes : List ℕ → List ℕ → ℕ → ℕ
+signalNodes ops nums i = nodesAt (nodeAt ops nums) (length ops) i

@@ -1,8 +1,8 @@
 -- A formula table: an operation and a number for each place. A rule is a part of it, a first place and a count.
 --     nodeAt    the node at a place
 --     ruleOf    the formula that a rule's part is, if it is one within the limits of document 01
--- That `ruleOf` gives nothing is refusal 2 for a formula table: a part outside the table, an unknown operation, a part that is no
--- prefix tree covering exactly its nodes, an atom above 63, more than 256 nodes or depth 64.
+-- That `ruleOf` gives nothing is refusal 2 for a formula table: a part outside the table's first 1,024 places, an unknown operation, a part
+-- that is no prefix tree covering exactly its nodes, an atom above 63, more than 256 nodes or depth 64.
 use mathlib.Core.Path.{_≡_}
 use mathlib.Core.Bool.{Bool, true, false, _&&_}
 use mathlib.Core.List.{List}
@@ -30,10 +30,15 @@ abbrev pub limited : Option Formula → Option Formula
 limited none = none
 limited (some f) = keep (leb (depth f) 64 && all inWord f) (some f)
 
+-- a formula table has at most 1,024 nodes, however much is lent
+abbrev pub tablePlaces : ℕ
+tablePlaces = 1024
+
 -- the part has at most 256 places, all of them in the table
 abbrev pub inTable : List ℕ → List ℕ → ℕ → ℕ → Bool
 inTable ops nums first count =
-    leb count 256 && (leb (first + count) (length ops) && leb (first + count) (length nums))
+    leb count 256
+    && (leb (first + count) tablePlaces && (leb (first + count) (length ops) && leb (first + count) (length nums)))
 
 unfoldable pub ruleOf : List ℕ → List ℕ → ℕ → ℕ → Option Formula
 ruleOf ops nums first count =
@@ -43,6 +48,7 @@ ruleOf ops nums first count =
 -- `rule-inv` and `rule-of` (proofs/Rules.antt): `ruleOf` gives f exactly where this holds
 pub record Rule (ops nums : List ℕ) (first count : ℕ) (f : Formula) : Type 0 where
   pub few : count ≤ 256
+  pub in-table : first + count ≤ tablePlaces
   pub in-ops : first + count ≤ length ops
   pub in-nums : first + count ≤ length nums
   pub spells : Spells (nodeAt ops nums) first f
@@ -68,4 +74,4 @@ pub record Placed (ops nums : List ℕ) (i : ℕ) : Type 0 where
 
 -- refusal 1: a lent table has room for 1,024 formula nodes
 abbrev pub roomy : List ℕ → List ℕ → Bool
-roomy ops nums = leb 1024 (length ops) && leb 1024 (length nums)
+roomy ops nums = leb tablePlaces (length ops) && leb tablePlaces (length nums)

@@ -49,16 +49,16 @@ pub fn is_rule(ops: &[u8], nums: &[u64], first: usize, count: usize) -> bool
     if 256 < count {
         return false;
     }
-    if ops.len() < count {
-        return false;
-    }
-    if ops.len() - count < first {
-        return false;
-    }
-    if nums.len() < first + count {
+    if 1024 - count < first {
         return false;
     }
     let end = first + count;
+    if ops.len() < end {
+        return false;
+    }
+    if nums.len() < end {
+        return false;
+    }
     let Walk::Upto(e) = tree_at(ops, nums, first, end, 64) else {
         return false;
     };

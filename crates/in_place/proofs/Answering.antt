@@ -6,9 +6,11 @@ use Prim.Native.Nat.{ℕ}
 use lib.IntN.{ℤ}
 use Rattle.stepping.specs.declared.call.Verdict.{Verdict}
 use Rattle.stepping.specs.declared.fresh.Outcome.{Outcome}
-use Rattle.stepping.specs.Memory.{Memory}
-use Rattle.stepping.specs.Call.{Tables, Answers, stepCall}
-use Rattle.stepping.specs.Fresh.{freshCall, making}
+use Rattle.node_step.specs.Memory.{Memory}
+use Rattle.lent.specs.Lent.{Tables}
+use Rattle.stepping.specs.Call.{Answers, verdictOf, stepCall}
+use Rattle.stepping.specs.Fresh.{freshCall, outcomeOf, making}
+use Rattle.stepping.proofs.Telling.{verdict-is, outcome-is}
 use Rattle.in_place.specs.declared.Monitor.{Monitor}
 use Rattle.in_place.specs.declared.step.Advanced.{Advanced}
 use Rattle.in_place.specs.declared.fresh.Started.{Started}
@@ -18,14 +20,15 @@ pub steps : (t : Tables) (m : Monitor) (s w : ℕ) (r : Verdict) (held : List Bo
 unfolding stepIn
 steps t m s w r held remaining failed culprits d = λ i. record {
   monitor = structOf (record { size = m .size; forms = m .forms; bounds = m .bounds; memory = d .leaves i });
-  verdict = d .answers i;
+  verdict = verdict-is r (stepCall t (monitorOf m) s w .answer) (d .answers) i;
 }
 
 pub makes : (t : Tables) (m : Monitor) (r : Outcome) (size : ℕ) (forms bounds : List ℕ) (held : List Bool) (remaining : List ℕ) (failed : List Bool) (culprits : List ℤ) → freshCall t (m .forms) (m .bounds) (memoryOf m) r forms bounds (record { held = held; remaining = remaining; failed = failed; culprits = culprits }) → size ≡ sizeAfter r (m .size) → _≡_ {A = Started} (record { monitor = record { size = size; forms = forms; bounds = bounds; held = held; remaining = remaining; failed = failed; culprits = culprits }; outcome = r }) (freshIn t m)
 unfolding freshIn
 makes t m r size forms bounds held remaining failed culprits d e =
-    let f : size ≡ sizeAfter (making t (m .forms) (m .bounds) (memoryOf m) .answer) (m .size) = e ∙ ap (λ (x : Outcome). sizeAfter x (m .size)) (d .answers) in
+    let o : r ≡ outcomeOf (making t (m .forms) (m .bounds) (memoryOf m) .answer) = outcome-is r (making t (m .forms) (m .bounds) (memoryOf m) .answer) (d .answers) in
+    let f : size ≡ sizeAfter (outcomeOf (making t (m .forms) (m .bounds) (memoryOf m) .answer)) (m .size) = e ∙ ap (λ (x : Outcome). sizeAfter x (m .size)) o in
     λ i. record {
       monitor = structOf (record { size = f i; forms = d .forms-are i; bounds = d .bounds-are i; memory = d .memory-is i });
-      outcome = d .answers i;
+      outcome = o i;
     }

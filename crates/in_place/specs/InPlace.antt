@@ -4,10 +4,11 @@ use Prim.Native.Nat.{ℕ}
 use Rattle.stepping.specs.declared.call.Verdict.{Verdict}
 use Rattle.stepping.specs.declared.fresh.Outcome.{Outcome}
 use Rattle.stepping.specs.declared.fresh.Outcome.the-variants.{Made, Refused}
-use Rattle.stepping.specs.Memory.{Memory}
-use Rattle.stepping.specs.Call as Lent
-use Rattle.stepping.specs.Call.{Tables, stepCall}
-use Rattle.stepping.specs.Fresh.{Making, making}
+use Rattle.node_step.specs.Memory.{Memory}
+use Rattle.lent.specs.Lent as Lent
+use Rattle.lent.specs.Lent.{Tables}
+use Rattle.stepping.specs.Call.{verdictOf, stepCall}
+use Rattle.stepping.specs.Fresh.{outcomeOf, Making, making}
 use Rattle.in_place.specs.declared.Monitor.{Monitor}
 use Rattle.in_place.specs.declared.step.Advanced.{Advanced}
 use Rattle.in_place.specs.declared.fresh.Started.{Started}
@@ -15,6 +16,18 @@ use Rattle.in_place.specs.declared.fresh.Started.{Started}
 -- the node states of a monitor struct
 abbrev pub memoryOf : Monitor → Memory
 memoryOf m = record { held = m .held; remaining = m .remaining; failed = m .failed; culprits = m .culprits }
+
+-- the tables of a call, from its parameters
+abbrev pub overLists : List ℕ → List ℕ → ℕ → ℕ → List ℕ → ℕ → ℕ → Tables
+overLists ops nums first count nodes nfirst ncount = record {
+  ops = ops;
+  nums = nums;
+  first = first;
+  count = count;
+  nodes = nodes;
+  nfirst = nfirst;
+  ncount = ncount;
+}
 
 -- the monitor that a struct holds
 abbrev pub monitorOf : Monitor → Lent.Monitor
@@ -36,7 +49,7 @@ structOf k = record {
 unfoldable pub stepIn : Tables → Monitor → ℕ → ℕ → Advanced
 stepIn t m s w = record {
   monitor = structOf (record { size = m .size; forms = m .forms; bounds = m .bounds; memory = stepCall t (monitorOf m) s w .memory });
-  verdict = stepCall t (monitorOf m) s w .answer;
+  verdict = verdictOf (stepCall t (monitorOf m) s w .answer);
 }
 
 -- the count of nodes after making a monitor: a refusal leaves it
@@ -47,8 +60,8 @@ sizeAfter (Refused n) size = size
 -- what a call that makes a monitor leaves of a struct of `size` nodes
 abbrev pub startedOf : Making → ℕ → Started
 startedOf c size = record {
-  monitor = structOf (record { size = sizeAfter (c .answer) size; forms = c .forms; bounds = c .bounds; memory = c .memory });
-  outcome = c .answer;
+  monitor = structOf (record { size = sizeAfter (outcomeOf (c .answer)) size; forms = c .forms; bounds = c .bounds; memory = c .memory });
+  outcome = outcomeOf (c .answer);
 }
 
 -- making a monitor: its nodes' forms and bounds and cleared states, or the refusal and the struct as it was (`making`)

@@ -2,7 +2,7 @@
 use crate::Monitor;
 use stepping::fresh::Outcome;
 ghost use mathlib.Core.Path.{_≡_};
-ghost use Rattle.in_place.specs.InPlace.{sizeAfter, freshIn};
+ghost use Rattle.in_place.specs.InPlace.{overLists, sizeAfter, freshIn};
 
 // The answer to making a monitor, and the monitor afterwards.
 pub struct Started {
@@ -30,7 +30,7 @@ pub fn made(
     nfirst: usize,
     ncount: usize,
 ) -> Started
-    ensures { λ r. ⌜ r ≡ freshIn (record { ops = now (ops .entry); nums = now (nums .entry); first = first; count = count; nodes = now (nodes .entry); nfirst = nfirst; ncount = ncount }) m ⌝ }
+    ensures { λ r. ⌜ r ≡ freshIn (overLists (now (ops .entry)) (now (nums .entry)) first count (now (nodes .entry)) nfirst ncount) m ⌝ }
 {
     let mut forms = m.forms;
     let mut bounds = m.bounds;
@@ -77,7 +77,10 @@ pub fn fresh(
     nfirst: usize,
     ncount: usize,
 ) -> Outcome
-    ensures { λ r. ⌜ (r ≡ freshIn (record { ops = now (ops .entry); nums = now (nums .entry); first = first; count = count; nodes = now (nodes .entry); nfirst = nfirst; ncount = ncount }) (now (m .entry)) .outcome) × (now (m .exit) ≡ freshIn (record { ops = now (ops .entry); nums = now (nums .entry); first = first; count = count; nodes = now (nodes .entry); nfirst = nfirst; ncount = ncount }) (now (m .entry)) .monitor) ⌝ }
+    ensures { λ r. ⌜
+        (r ≡ freshIn (overLists (now (ops .entry)) (now (nums .entry)) first count (now (nodes .entry)) nfirst ncount) (now (m .entry)) .outcome)
+        × (now (m .exit) ≡ freshIn (overLists (now (ops .entry)) (now (nums .entry)) first count (now (nodes .entry)) nfirst ncount) (now (m .entry)) .monitor)
+        ⌝ }
 {
     let out = made(*m, ops, nums, first, count, nodes, nfirst, ncount);
     *m = out.monitor;

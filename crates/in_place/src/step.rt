@@ -2,7 +2,7 @@
 use crate::Monitor;
 use stepping::call::Verdict;
 ghost use mathlib.Core.Path.{_≡_};
-ghost use Rattle.in_place.specs.InPlace.{stepIn};
+ghost use Rattle.in_place.specs.InPlace.{overLists, stepIn};
 
 // The answer to a step call, and the monitor afterwards.
 pub struct Advanced {
@@ -23,7 +23,7 @@ pub fn stepped(
     s: u64,
     w: u64,
 ) -> Advanced
-    ensures { λ r. ⌜ r ≡ stepIn (record { ops = now (ops .entry); nums = now (nums .entry); first = first; count = count; nodes = now (nodes .entry); nfirst = nfirst; ncount = ncount }) m s w ⌝ }
+    ensures { λ r. ⌜ r ≡ stepIn (overLists (now (ops .entry)) (now (nums .entry)) first count (now (nodes .entry)) nfirst ncount) m s w ⌝ }
 {
     let size = m.size;
     let forms = m.forms;
@@ -75,7 +75,11 @@ pub fn step(
     s: u64,
     w: u64,
 ) -> Verdict
-    ensures { λ r. ⌜ (r ≡ stepIn (record { ops = now (ops .entry); nums = now (nums .entry); first = first; count = count; nodes = now (nodes .entry); nfirst = nfirst; ncount = ncount }) (now (m .entry)) s w .verdict) × (now (m .exit) ≡ stepIn (record { ops = now (ops .entry); nums = now (nums .entry); first = first; count = count; nodes = now (nodes .entry); nfirst = nfirst; ncount = ncount }) (now (m .entry)) s w .monitor) ⌝ }
+    ensures { λ r. ⌜
+        (r ≡ stepIn (overLists (now (ops .entry)) (now (nums .entry)) first count (now (nodes .entry)) nfirst ncount) (now (m .entry)) s w .verdict)
+        × (now (m .exit)
+        ≡ stepIn (overLists (now (ops .entry)) (now (nums .entry)) first count (now (nodes .entry)) nfirst ncount) (now (m .entry)) s w .monitor)
+        ⌝ }
 {
     let out = stepped(*m, ops, nums, first, count, nodes, nfirst, ncount, s, w);
     *m = out.monitor;

@@ -1,4 +1,2 @@
 -- Demand 3 of the calls on a monitor struct.
-pub mod Answers
-pub mod Starting
 pub mod Demand

@@ -1,34 +1,90 @@
--- The step calls on a monitor struct as a machine, whose memory is the struct. An event is the same as of the calls on lists (crates/reports, specs/Calls.antt).
--- The contract of `in_place::step::step` is equality with `stepIn` (crates/in_place), of which the machine is made.
-use mathlib.Core.Bool.{Bool}
+-- The calls on a monitor struct lent by `&mut` as machines (crate meaning, specs/Demand.antt), whose memory is the struct. The contracts of
+-- `in_place::step::step` and `step_table` are equality with `stepIn`, of which the machines are made.
+--     inPlace, DemandInPlace      the calls on plain tables: `compile_formula`, and `fresh` and `step` in place
+--     onTables, DemandOnTables    the calls over node structs: `compile_table`, `fresh_table`, `step_table`
+use mathlib.Core.Bool.{true}
+use mathlib.Core.List.{List, [], _∷_}
 use mathlib.Core.Option.{some}
 use mathlib.Core.Path.{_≡_}
+use Prim.Native.Nat.{ℕ}
+use Rattle.result.specs.Result.{Result, given}
+use Rattle.formula.specs.Formula.{Formula}
+use Rattle.formula.specs.Table.{ruleOf}
 use Rattle.monitor.specs.Mon.{Mon}
+use Rattle.monitor.specs.Compile.{ruleNode}
+use Rattle.compiler.specs.Compiled.{compileCall}
+use Rattle.meaning.specs.Calls.{accepted}
+use Rattle.meaning.specs.Demand.{Machine, Demand}
 use Rattle.meaning.specs.State.{State}
-use Rattle.meaning.specs.Machine.{Machine}
-use Rattle.stepping.specs.declared.call.Verdict.the-variants.{Accepted}
+use Rattle.lent.specs.Lent.{Tables, tableRoom, ruleMon}
 use Rattle.stepping.specs.Walk.{readMon}
-use Rattle.stepping.specs.Call.{ruleMon}
-use Rattle.reports.specs.Calls.{StepCall, replyOf, callOf}
+use Rattle.stepping.specs.Call.{resultOf}
+use Rattle.stepping.specs.Fresh as fresh
+use Rattle.reports.specs.Calls.{callsBy, stepReport, compiledTables}
 use Rattle.in_place.specs.declared.Monitor.{Monitor}
-use Rattle.in_place.specs.declared.step.Advanced.{Advanced}
-use Rattle.in_place.specs.InPlace.{memoryOf, stepIn}
-
--- the answer to a call, and the struct afterwards
-abbrev pub outcome : StepCall → Monitor → Advanced
-outcome e k = stepIn (e .tables) k (e .at) (e .truths)
-
-abbrev pub inPlace : Machine Monitor StepCall
-inPlace = record {
-  run = λ e k. outcome e k .monitor;
-  reply = λ e k. replyOf (outcome e k .verdict);
-  call = λ e k. callOf (outcome e k .verdict) (e .at) (e .truths);
-}
-
--- an accepted call goes over the rule's own table: the tables hold the compiled rule m
-abbrev pub OwnTable : Mon → StepCall → Monitor → Type 0
-OwnTable m e k = (b : Bool) → outcome e k .verdict ≡ Accepted b → ruleMon (e .tables) ≡ some m
+use Rattle.in_place.specs.InPlace.{memoryOf, stepIn, freshIn}
+use Rattle.node_table.specs.declared.FormulaNode.{FormulaNode}
+use Rattle.node_table.specs.Node.{opsOf, numsOf}
+use Rattle.table_step.specs.Over.{over}
 
 -- the struct reads as a state of m
 abbrev pub ReadsAs : (m : Mon) → Monitor → State m → Type 0
 ReadsAs m k st = readMon m (memoryOf k) 0 ≡ st
+
+-- ---- over plain tables
+-- the tables that a call is lent, its step and its truths
+pub record StepCall : Type 0 where
+  pub tables : Tables
+  pub at : ℕ
+  pub truths : ℕ
+
+abbrev pub inPlace : Machine Monitor StepCall
+inPlace = record {
+  asks = λ e. accepted (e .at) (e .truths) ∷ [];
+  Own = λ e m. ruleMon (e .tables) ≡ some m;
+  Roomy = λ e. tableRoom (e .tables .ops) (e .tables .nums) (e .tables .nodes) ≡ true;
+  calls = λ e k. callsBy (resultOf (stepIn (e .tables) k (e .at) (e .truths) .verdict)) (accepted (e .at) (e .truths) ∷ []);
+  reports = λ e k. stepReport (resultOf (stepIn (e .tables) k (e .at) (e .truths) .verdict)) (e .at);
+  run = λ e k. stepIn (e .tables) k (e .at) (e .truths) .monitor;
+}
+
+abbrev pub DemandInPlace : Type 0
+DemandInPlace =
+    (ops nums : List ℕ) (first count : ℕ) (f : Formula) → ruleOf ops nums first count ≡ some f →
+    (out : List ℕ) (n : ℕ) → compileCall ops nums first count out .answer ≡ given n →
+    (k : Monitor) → fresh.resultOf (freshIn (compiledTables ops nums first count out n) k .outcome) ≡ given n →
+    Demand inPlace f (ruleNode f first) (ReadsAs (ruleNode f first)) (freshIn (compiledTables ops nums first count out n) k .monitor)
+
+-- ---- over node structs
+-- the formula table and the rule's part of it, the node table and the compiled rule's part of it, a step and its truths
+pub record TableCall : Type 0 where
+  pub table : List FormulaNode
+  pub first : ℕ
+  pub count : ℕ
+  pub nodes : List ℕ
+  pub nfirst : ℕ
+  pub ncount : ℕ
+  pub at : ℕ
+  pub truths : ℕ
+
+-- the same call over plain tables
+abbrev pub plainCall : TableCall → StepCall
+plainCall e = record { tables = over (e .table) (e .first) (e .count) (e .nodes) (e .nfirst) (e .ncount); at = e .at; truths = e .truths }
+
+abbrev pub onTables : Machine Monitor TableCall
+onTables = record {
+  asks = λ e. inPlace .asks (plainCall e);
+  Own = λ e m. inPlace .Own (plainCall e) m;
+  Roomy = λ e. inPlace .Roomy (plainCall e);
+  calls = λ e k. inPlace .calls (plainCall e) k;
+  reports = λ e k. inPlace .reports (plainCall e) k;
+  run = λ e k. inPlace .run (plainCall e) k;
+}
+
+abbrev pub DemandOnTables : Type 0
+DemandOnTables =
+    (table : List FormulaNode) (first count : ℕ) (f : Formula) → ruleOf (opsOf table) (numsOf table) first count ≡ some f →
+    (out : List ℕ) (n : ℕ) → compileCall (opsOf table) (numsOf table) first count out .answer ≡ given n →
+    (k : Monitor) → fresh.resultOf (freshIn (over table first count (compileCall (opsOf table) (numsOf table) first count out .out) 0 n) k .outcome) ≡ given n →
+    Demand onTables f (ruleNode f first) (ReadsAs (ruleNode f first))
+    (freshIn (over table first count (compileCall (opsOf table) (numsOf table) first count out .out) 0 n) k .monitor)

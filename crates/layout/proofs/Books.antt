@@ -1,25 +1,31 @@
 -- The answers of the layout over a book.
 use mathlib.Core.Path.{_≡_, refl, sym, ap, ap₂, _∙_}
-use mathlib.Core.Bool.{Bool, true, false, _&&_}
+use mathlib.Core.Bool.{Bool, true, false, _&&_, not}
 use mathlib.Core.List.{List, [], _∷_, _++_}
-use mathlib.Core.Option.{Option}
+use mathlib.Core.Option.{Option, none, some}
 use mathlib.Core.Logic.{⊎-elim}
 use Prim.Native.Nat.{ℕ, zero, suc, _+_, _≤_, _<_}
 use native.Mathlib.Omega.{arith}
 use native.Mathlib.Numerals.{add-one}
 use borrow.Author.Tests.{le-leb, lt-leb, leb-true, eq-eqb, ne-eqb}
-use lib.Dec.{leb}
+use lib.Dec.{leb, eqb}
 use lib.ListN.{length, getD}
 use lib.Seq.{sets}
-use Rattle.formula.specs.Table.{isSome}
-use Rattle.formula.proofs.Cases.{below-or}
+use Rattle.result.specs.Result.{given, refused}
+use Rattle.formula.specs.Formula.{Formula}
+use Rattle.formula.specs.Table.{isSome, ruleOf, roomy}
+use Rattle.formula.proofs.Rules.{both-long}
+use Rattle.formula.proofs.Cases.{below-or, true-false}
 use Rattle.formula.proofs.Walks.{both-true}
 use Rattle.monitor.specs.Mon.{Mon}
+use Rattle.monitor.specs.Compile.{ruleFaults, ruleNode}
+use Rattle.compiler.specs.declared.Compiled.{Compiled}
+use Rattle.compiler.specs.declared.Compiled.the-variants.{Nodes, Refused}
+use Rattle.compiler.specs.Compiled.{resultOf, Call, firstOr, compileFormula, ruleCall, orShort, compileCall, Answers}
 use Rattle.plan.specs.Book.{firstBit, listed, kept, filledIn, isZero, partBits, Rowed, Arranged}
 use Rattle.plan.proofs.Rows.{table-bits}
 use Rattle.plan.proofs.Books.{pick-same, same-first}
-use Rattle.layout.specs.Entry.{roomyNodes, roomyRules, monAt, bitsIn, fine, fineOf, allBelow, Outcome, outcome, pickOutcome, sound, laidOut, layoutOf, InRules, InRulesUpto}
-use Rattle.layout.specs.declared.book.Laid.the-variants.{Done, Refused}
+use Rattle.layout.specs.Entry.{roomyNodes, roomyRules, ruleAt, monAt, bitsIn, agrees, fine, fineOf, allBelow, Outcome, outcome, pickOutcome, sound, laidOut, layoutOf, InRules, InRulesUpto}
 use Rattle.layout.proofs.Rules.{some-mon, part-compiled}
 
 -- ---- room for 64 rules
@@ -62,16 +68,72 @@ module _ (k r f c nf nc : List ℕ) where
       let (i, j) = both-true (leb 64 (length nf)) _ t in
       record { k-long = leb-true _ _ a; r-long = leb-true _ _ b; f-long = leb-true _ _ d; c-long = leb-true _ _ g; nf-long = leb-true _ _ i; nc-long = leb-true _ _ j }
 
--- ---- each rule that is said to compile does
-module _ (refusals : List ℕ) (r : ℕ) (o : Option Mon) where
-  pub fine-refused : (getD refusals r 0 ≡ 0 → ⊥) → true ≡ fine (isZero refusals r) o
-  fine-refused h = sym (ap (λ (b : Bool). fine b o) (ne-eqb _ 0 h))
+-- ---- each rule is compiled as its flag says
+-- no rule, no flag
+pub fine-no-rule : (o : Option Formula) (k : ℕ) (m : Option Mon) (q : Bool) → q ≡ isSome o → q ≡ false → false ≡ fine o k m
+fine-no-rule none k m q e h = refl
+fine-no-rule (some f) k m q e h = true-false e h
 
-  pub fine-compiled : (q : Bool) → getD refusals r 0 ≡ 0 → q ≡ isSome o → q ≡ fine (isZero refusals r) o
-  fine-compiled q h e = e ∙ sym (ap (λ (b : Bool). fine b o) (eq-eqb _ 0 h))
+-- what the compiler answers, for a rule in a table with room
+module _ (ops nums : List ℕ) (first count : ℕ) (k : ℕ) (m : Option Mon) (g : 1024 ≤ length ops) (h : 1024 ≤ length nums) (q : Bool) (z : q ≡ isSome (ruleOf ops nums first count)) (y : q ≡ true) (out : List ℕ) (l : 1792 ≤ length out) (a : Compiled) (out′ : List ℕ) (w : Answers (compileCall ops nums first count out) a out′) where
+  the-rule : (f : Formula) × (ruleOf ops nums first count ≡ some f)
+  the-rule = go (ruleOf ops nums first count) refl (sym z ∙ y)
+    where
+      go : (o : Option Formula) → ruleOf ops nums first count ≡ o → isSome o ≡ true → (f : Formula) × (ruleOf ops nums first count ≡ some f)
+      go none e x = true-false x refl
+      go (some f) e x = (f, e)
 
-pub record Fining (refusals firsts counts nfirsts ncounts : List ℕ) (ok : ℕ → Bool) (n r : ℕ) : Type 0 where
-  pub room : InRulesUpto refusals firsts counts nfirsts ncounts n
+  called : compileCall ops nums first count out ≡ firstOr (ruleFaults (the-rule .0)) (ruleNode (the-rule .0) first) out
+  unfolding compileCall
+  called =
+      ap₂ (λ (x y : Bool). orShort (x && y) out (ruleCall ops nums first count out)) (sym (both-long ops nums g h)) (le-leb 1792 (length out) l)
+      ∙ ap (λ (o : Option Formula). compileFormula o first out) (the-rule .1)
+
+  answered : resultOf a ≡ firstOr (ruleFaults (the-rule .0)) (ruleNode (the-rule .0) first) out .answer
+  answered = w .answers ∙ ap (λ (c : Call). c .answer) called
+
+  by-faults : fine (ruleOf ops nums first count) k m ≡ agrees (ruleFaults (the-rule .0)) k m
+  by-faults = ap (λ (o : Option Formula). fine o k m) (the-rule .1)
+
+  module _ (n : ℕ) (x : a ≡ Nodes n) where
+    compiles : ruleFaults (the-rule .0) ≡ []
+    compiles = go (ruleFaults (the-rule .0)) refl (sym (ap resultOf x) ∙ answered)
+      where
+        go : (fs : List ℕ) → ruleFaults (the-rule .0) ≡ fs → given n ≡ firstOr fs (ruleNode (the-rule .0) first) out .answer → ruleFaults (the-rule .0) ≡ []
+        go [] e v = e
+        go (j ∷ js) e v = let t : _≡_ {A = ℕ} 0 1 = cc in absurd (omega arith)
+
+    pub fine-flagged : (k ≡ 0 → ⊥) → false ≡ fine (ruleOf ops nums first count) k m
+    fine-flagged e = sym (by-faults ∙ ap (λ (fs : List ℕ). agrees fs k m) compiles ∙ ap (λ (b : Bool). b && isSome m) (ne-eqb k 0 e))
+
+    pub fine-compiled : k ≡ 0 → (b : Bool) → b ≡ isSome m → b ≡ fine (ruleOf ops nums first count) k m
+    fine-compiled e b v = v ∙ sym (by-faults ∙ ap (λ (fs : List ℕ). agrees fs k m) compiles ∙ ap (λ (b : Bool). b && isSome m) (eq-eqb k 0 e))
+
+  module _ (n : ℕ) (x : a ≡ Refused n) where
+    refuses : agrees (ruleFaults (the-rule .0)) k m ≡ (not (eqb k 0) && eqb k n)
+    refuses = go (ruleFaults (the-rule .0)) (sym (ap resultOf x) ∙ answered)
+      where
+        go : (fs : List ℕ) → refused n ≡ firstOr fs (ruleNode (the-rule .0) first) out .answer → agrees fs k m ≡ (not (eqb k 0) && eqb k n)
+        go [] v = let t : _≡_ {A = ℕ} 0 1 = cc in absurd (omega arith)
+        go (j ∷ js) v = let t : n ≡ j = cc in ap (λ (i : ℕ). not (eqb k 0) && eqb k i) (sym t)
+
+    pub fine-unflagged : k ≡ 0 → false ≡ fine (ruleOf ops nums first count) k m
+    fine-unflagged e = sym (by-faults ∙ refuses ∙ ap (λ (b : Bool). not b && eqb k n) (eq-eqb k 0 e))
+
+    pub fine-refused : (k ≡ 0 → ⊥) → eqb k n ≡ fine (ruleOf ops nums first count) k m
+    fine-refused e = sym (by-faults ∙ refuses ∙ ap (λ (b : Bool). not b && eqb k n) (ne-eqb k 0 e))
+
+-- where flag 0 agrees, the nodes hold a compiled rule
+flag-zero : (o : Option Formula) (k : ℕ) (m : Option Mon) → eqb k 0 ≡ true → fine o k m ≡ true → isSome m ≡ true
+flag-zero none k m c e = true-false e refl
+flag-zero (some f) k m c e = go (ruleFaults f) e
+  where
+    go : (fs : List ℕ) → agrees fs k m ≡ true → isSome m ≡ true
+    go [] v = both-true (eqb k 0) (isSome m) v .1
+    go (n ∷ ns) v = true-false (both-true (not (eqb k 0)) (eqb k n) v .0) (ap not c)
+
+pub record Fining (ops nums refusals firsts counts nfirsts ncounts : List ℕ) (ok : ℕ → Bool) (n r : ℕ) : Type 0 where
+  pub room : InRulesUpto ops nums refusals firsts counts nfirsts ncounts n
   pub below : r ≤ n
   pub so-far : allBelow ok r ≡ true
 
@@ -95,18 +157,20 @@ all-inv ok (suc n) r e h = ⊎-elim
     (λ l. let z : r ≡ n = omega arith in ap ok z ∙ both-true (allBelow ok n) (ok n) e .1)
     (below-or r n)
 
-module _ (refusals firsts counts nfirsts ncounts : List ℕ) (ok : ℕ → Bool) (n : ℕ) where
-  pub fining-none : InRulesUpto refusals firsts counts nfirsts ncounts n → Fining refusals firsts counts nfirsts ncounts ok n 0
+module _ (ops nums refusals firsts counts nfirsts ncounts : List ℕ) (ok : ℕ → Bool) (n : ℕ) where
+  pub fining-none : InRulesUpto ops nums refusals firsts counts nfirsts ncounts n → Fining ops nums refusals firsts counts nfirsts ncounts ok n 0
   unfolding allBelow
   fining-none w = record { room = w; below = omega arith; so-far = refl }
 
-  module _ (r : ℕ) (g : Fining refusals firsts counts nfirsts ncounts ok n r) where
+  module _ (r : ℕ) (g : Fining ops nums refusals firsts counts nfirsts ncounts ok n r) where
     pub fining-all : n ≤ r → true ≡ allBelow ok n
     fining-all h = let e : r ≡ n = omega (arith, g .below) in sym (sym (ap (allBelow ok) e) ∙ g .so-far)
 
     module _ (h : r < n) where
-      pub fining-in : InRules refusals firsts counts nfirsts ncounts r
+      pub fining-in : InRules ops nums refusals firsts counts nfirsts ncounts r
       fining-in = record {
+        in-ops = g .room .in-ops;
+        in-nums = g .room .in-nums;
         in-refusals = omega (arith, g .room .in-refusals);
         in-firsts = omega (arith, g .room .in-firsts);
         in-counts = omega (arith, g .room .in-counts);
@@ -118,7 +182,7 @@ module _ (refusals firsts counts nfirsts ncounts : List ℕ) (ok : ℕ → Bool)
         pub fining-false : b ≡ false → false ≡ allBelow ok n
         fining-false z = all-false ok r n h (sym e ∙ z)
 
-        pub fining-more : b ≡ true → Fining refusals firsts counts nfirsts ncounts ok n (r + 1)
+        pub fining-more : b ≡ true → Fining ops nums refusals firsts counts nfirsts ncounts ok n (r + 1)
         unfolding allBelow
         fining-more z = record {
           room = g .room;
@@ -146,52 +210,58 @@ module _ (ops nums firsts counts nodes nfirsts ncounts kinds refusals : List ℕ
   answer : (w v t u s : Bool) → Outcome
   answer w v t u s =
       pickOutcome (w && (v && (t && u)))
-      (pickOutcome s (laidOut kinds refusals (monAt ops nums firsts counts nodes nfirsts ncounts) n starts bits′) (outcome (Refused 2) starts bits′))
-      (outcome (Refused 1) starts bits′)
+      (pickOutcome s (laidOut kinds refusals (monAt ops nums firsts counts nodes nfirsts ncounts) n starts bits′) (outcome (refused 2) starts bits′))
+      (outcome (refused 1) starts bits′)
 
-  layout-is : {w v t u s : Bool} → roomyNodes ops nums nodes ≡ w → roomyRules kinds refusals firsts counts nfirsts ncounts ≡ v → leb 64 (length starts) ≡ t → leb 64 (length bits′) ≡ u → sound refusals (monAt ops nums firsts counts nodes nfirsts ncounts) n ≡ s → layoutOf ops nums firsts counts nodes nfirsts ncounts kinds refusals n starts bits′ ≡ answer w v t u s
+  layout-is : {w v t u s : Bool} → roomyNodes ops nums nodes ≡ w → roomyRules kinds refusals firsts counts nfirsts ncounts ≡ v → leb 64 (length starts) ≡ t → leb 64 (length bits′) ≡ u → sound (ruleAt ops nums firsts counts) refusals (monAt ops nums firsts counts nodes nfirsts ncounts) n ≡ s → layoutOf ops nums firsts counts nodes nfirsts ncounts kinds refusals n starts bits′ ≡ answer w v t u s
   unfolding layoutOf answer
   layout-is a b c d e = λ i. answer (a i) (b i) (c i) (d i) (e i)
 
   module _ (w : Bool) (e : w ≡ roomyNodes ops nums nodes) where
-    pub layout-narrow : w ≡ false → outcome (Refused 1) starts bits′ ≡ layoutOf ops nums firsts counts nodes nfirsts ncounts kinds refusals n starts bits′
+    pub layout-narrow : w ≡ false → outcome (refused 1) starts bits′ ≡ layoutOf ops nums firsts counts nodes nfirsts ncounts kinds refusals n starts bits′
     unfolding answer
     layout-narrow h = sym (layout-is (sym e ∙ h) refl refl refl refl)
 
     module _ (h : w ≡ true) (v : Bool) (e₂ : v ≡ roomyRules kinds refusals firsts counts nfirsts ncounts) where
-      pub layout-short : v ≡ false → outcome (Refused 1) starts bits′ ≡ layoutOf ops nums firsts counts nodes nfirsts ncounts kinds refusals n starts bits′
+      pub layout-short : v ≡ false → outcome (refused 1) starts bits′ ≡ layoutOf ops nums firsts counts nodes nfirsts ncounts kinds refusals n starts bits′
       unfolding answer
       layout-short g = sym (layout-is (sym e ∙ h) (sym e₂ ∙ g) refl refl refl)
 
       module _ (g : v ≡ true) where
-        pub layout-starts : length starts < 64 → outcome (Refused 1) starts bits′ ≡ layoutOf ops nums firsts counts nodes nfirsts ncounts kinds refusals n starts bits′
+        pub layout-starts : length starts < 64 → outcome (refused 1) starts bits′ ≡ layoutOf ops nums firsts counts nodes nfirsts ncounts kinds refusals n starts bits′
         unfolding answer
         layout-starts l = sym (layout-is (sym e ∙ h) (sym e₂ ∙ g) (lt-leb _ _ l) refl refl)
 
         module _ (l : 64 ≤ length starts) where
-          pub layout-bits : length bits′ < 64 → outcome (Refused 1) starts bits′ ≡ layoutOf ops nums firsts counts nodes nfirsts ncounts kinds refusals n starts bits′
+          pub layout-bits : length bits′ < 64 → outcome (refused 1) starts bits′ ≡ layoutOf ops nums firsts counts nodes nfirsts ncounts kinds refusals n starts bits′
           unfolding answer
           layout-bits m = sym (layout-is (sym e ∙ h) (sym e₂ ∙ g) (le-leb _ _ l) (lt-leb _ _ m) refl)
 
           module _ (m : 64 ≤ length bits′) where
-            pub layout-many : 64 < n → outcome (Refused 2) starts bits′ ≡ layoutOf ops nums firsts counts nodes nfirsts ncounts kinds refusals n starts bits′
+            pub layout-many : 64 < n → outcome (refused 2) starts bits′ ≡ layoutOf ops nums firsts counts nodes nfirsts ncounts kinds refusals n starts bits′
             unfolding answer
-            layout-many k = sym (layout-is (sym e ∙ h) (sym e₂ ∙ g) (le-leb _ _ l) (le-leb _ _ m) (ap (λ (b : Bool). b && allBelow (fineOf refusals (monAt ops nums firsts counts nodes nfirsts ncounts)) n) (lt-leb _ _ k)))
+            layout-many k = sym (layout-is (sym e ∙ h) (sym e₂ ∙ g) (le-leb _ _ l) (le-leb _ _ m) (ap (λ (b : Bool). b && allBelow (fineOf (ruleAt ops nums firsts counts) refusals (monAt ops nums firsts counts nodes nfirsts ncounts)) n) (lt-leb _ _ k)))
 
             module _ (k : n ≤ 64) where
-              pub rules-in : InRulesUpto refusals firsts counts nfirsts ncounts n
+              open-wide : (1024 ≤ length ops) × (1024 ≤ length nums)
+              open-wide =
+                  let (_, r) = both-true (leb 1792 (length nodes)) (roomy ops nums) (sym e ∙ h) in
+                  let (a, b) = both-true (leb 1024 (length ops)) (leb 1024 (length nums)) r in
+                  (leb-true _ _ a, leb-true _ _ b)
+
+              pub rules-in : InRulesUpto ops nums refusals firsts counts nfirsts ncounts n
               rules-in =
                   let o = long kinds refusals firsts counts nfirsts ncounts v e₂ g in
-                  record { in-refusals = omega (arith, o .r-long); in-firsts = omega (arith, o .f-long); in-counts = omega (arith, o .c-long); in-nfirsts = omega (arith, o .nf-long); in-ncounts = omega (arith, o .nc-long) }
+                  record { in-ops = open-wide .0; in-nums = open-wide .1; in-refusals = omega (arith, o .r-long); in-firsts = omega (arith, o .f-long); in-counts = omega (arith, o .c-long); in-nfirsts = omega (arith, o .nf-long); in-ncounts = omega (arith, o .nc-long) }
 
-              module _ (q : Bool) (z : q ≡ allBelow (fineOf refusals (monAt ops nums firsts counts nodes nfirsts ncounts)) n) where
-                pub layout-unsound : q ≡ false → outcome (Refused 2) starts bits′ ≡ layoutOf ops nums firsts counts nodes nfirsts ncounts kinds refusals n starts bits′
+              module _ (q : Bool) (z : q ≡ allBelow (fineOf (ruleAt ops nums firsts counts) refusals (monAt ops nums firsts counts nodes nfirsts ncounts)) n) where
+                pub layout-unsound : q ≡ false → outcome (refused 2) starts bits′ ≡ layoutOf ops nums firsts counts nodes nfirsts ncounts kinds refusals n starts bits′
                 unfolding answer
                 layout-unsound y = sym (layout-is (sym e ∙ h) (sym e₂ ∙ g) (le-leb _ _ l) (le-leb _ _ m) (ap₂ _&&_ (le-leb _ _ k) (sym z ∙ y)))
 
                 module _ (y : q ≡ true) where
                   is-fine : (r : ℕ) → r < n → isZero refusals r ≡ true → isSome (monAt ops nums firsts counts nodes nfirsts ncounts r) ≡ true
-                  is-fine r j c = sym (ap (λ (b : Bool). fine b (monAt ops nums firsts counts nodes nfirsts ncounts r)) c) ∙ all-inv (fineOf refusals (monAt ops nums firsts counts nodes nfirsts ncounts)) n r (sym z ∙ y) j
+                  is-fine r j c = flag-zero (ruleAt ops nums firsts counts r) _ _ c (all-inv (fineOf (ruleAt ops nums firsts counts) refusals (monAt ops nums firsts counts nodes nfirsts ncounts)) n r (sym z ∙ y) j)
 
                   pub rules-rowed : Rowed kinds refusals nodes nfirsts ncounts n
                   rules-rowed =
@@ -216,10 +286,10 @@ module _ (ops nums firsts counts nodes nfirsts ncounts kinds refusals : List ℕ
                       let (x, p) = some-mon _ _ refl (is-fine r j c) in
                       table-bits ops nums (getD firsts r 0) (getD counts r 0) nodes (getD nfirsts r 0) (getD ncounts r 0) x p ∙ sym (ap bitsIn p)
 
-                  pub layout-done : (starts″ bits″ : List ℕ) → Arranged n (isZero kinds) (isZero refusals) (partBits nodes nfirsts ncounts) starts starts″ bits′ bits″ → outcome Done starts″ bits″ ≡ layoutOf ops nums firsts counts nodes nfirsts ncounts kinds refusals n starts bits′
+                  pub layout-done : (starts″ bits″ : List ℕ) → Arranged n (isZero kinds) (isZero refusals) (partBits nodes nfirsts ncounts) starts starts″ bits′ bits″ → outcome (given tt) starts″ bits″ ≡ layoutOf ops nums firsts counts nodes nfirsts ncounts kinds refusals n starts bits′
                   unfolding answer
                   layout-done starts″ bits″ a =
-                      ap₂ (outcome Done)
+                      ap₂ (outcome (given tt))
                       (a .firsts-are ∙ same-firsts n (isZero kinds) (isZero refusals) (partBits nodes nfirsts ncounts) (λ r. bitsIn (monAt ops nums firsts counts nodes nfirsts ncounts r)) same-as-mon starts)
                       (a .bits-are ∙ same-bits n (isZero kinds) (isZero refusals) (partBits nodes nfirsts ncounts) (λ r. bitsIn (monAt ops nums firsts counts nodes nfirsts ncounts r)) same-as-mon bits′)
                       ∙ sym (layout-is (sym e ∙ h) (sym e₂ ∙ g) (le-leb _ _ l) (le-leb _ _ m) (ap₂ _&&_ (le-leb _ _ k) (sym z ∙ y)))

@@ -7,6 +7,7 @@ use Prim.Native.Nat.{ℕ, zero, suc, _+_, _≤_, _<_}
 use borrow.Author.Tests.{le-leb, lt-leb, lt-ltb, le-ltb}
 use lib.Dec.{ltb}
 use lib.ListN.{length}
+use Rattle.result.specs.Result.{Result, given, refused, orElse}
 use Rattle.formula.specs.Table.{roomy, isSome}
 use Rattle.formula.proofs.Cases.{true-false}
 use Rattle.monitor.specs.Mon.{Mon}
@@ -16,9 +17,7 @@ use Rattle.plan.specs.Rows.{rowPieces, Summed, Part}
 use Rattle.plan.specs.declared.layout.Slot.{Slot}
 use Rattle.plan.specs.declared.layout.Piece.{Piece}
 use Rattle.plan.proofs.Rows.{rows-pieces, over-formula, table-bits, table-part}
-use Rattle.layout.specs.Entry.{roomyNodes, bitsBy, ruleBitsOf, pickSlot, slotBy, nodeSlotOf}
-use Rattle.layout.specs.declared.rule.RuleBits.the-variants.{Bits, Refused as BitsRefused}
-use Rattle.layout.specs.declared.rule.NodeSlot.the-variants.{At, Refused as SlotRefused}
+use Rattle.layout.specs.Entry.{roomyNodes, bitsBy, ruleBitsOf, slotBy, nodeSlotOf}
 
 module _ (ops nums nodes : List ℕ) where
   pub wide-short : length nodes < 1792 → false ≡ roomyNodes ops nums nodes
@@ -42,47 +41,47 @@ module _ (ops nums : List ℕ) (first count : ℕ) (nodes : List ℕ) (nfirst nc
   rows-length i (suc n) = ap suc (rows-length (i + 1) n)
 
   module _ (w : Bool) (e : w ≡ roomyNodes ops nums nodes) where
-    pub bits-short : w ≡ false → BitsRefused 1 ≡ ruleBitsOf ops nums first count nodes nfirst ncount
+    pub bits-short : w ≡ false → refused 1 ≡ ruleBitsOf ops nums first count nodes nfirst ncount
     unfolding ruleBitsOf
-    bits-short h = sym (ap (λ (b : Bool). bitsBy b (compiledOf ops nums first count nodes nfirst ncount)) (sym e ∙ h))
+    bits-short h = sym (ap (λ (b : Bool). orElse b 1 (bitsBy (compiledOf ops nums first count nodes nfirst ncount))) (sym e ∙ h))
 
-    pub slot-short : (j : ℕ) → w ≡ false → SlotRefused 1 ≡ nodeSlotOf ops nums first count nodes nfirst ncount j
+    pub slot-short : (j : ℕ) → w ≡ false → refused 1 ≡ nodeSlotOf ops nums first count nodes nfirst ncount j
     unfolding nodeSlotOf
-    slot-short j h = sym (ap (λ (b : Bool). slotBy b (compiledOf ops nums first count nodes nfirst ncount) j) (sym e ∙ h))
+    slot-short j h = sym (ap (λ (b : Bool). orElse b 1 (slotBy (compiledOf ops nums first count nodes nfirst ncount) j)) (sym e ∙ h))
 
     module _ (h : w ≡ true) (q : Bool) (z : q ≡ isSome (compiledOf ops nums first count nodes nfirst ncount)) where
-      pub bits-none : q ≡ false → BitsRefused 2 ≡ ruleBitsOf ops nums first count nodes nfirst ncount
+      pub bits-none : q ≡ false → refused 2 ≡ ruleBitsOf ops nums first count nodes nfirst ncount
       unfolding ruleBitsOf
-      bits-none y = sym (ap₂ bitsBy (sym e ∙ h) (no-mon q _ z y))
+      bits-none y = sym (ap₂ (λ (b : Bool) (o : Option Mon). orElse b 1 (bitsBy o)) (sym e ∙ h) (no-mon q (compiledOf ops nums first count nodes nfirst ncount) z y))
 
-      pub slot-none : (j : ℕ) → q ≡ false → SlotRefused 2 ≡ nodeSlotOf ops nums first count nodes nfirst ncount j
+      pub slot-none : (j : ℕ) → q ≡ false → refused 2 ≡ nodeSlotOf ops nums first count nodes nfirst ncount j
       unfolding nodeSlotOf
-      slot-none j y = sym (ap₂ (λ (b : Bool) (o : Option Mon). slotBy b o j) (sym e ∙ h) (no-mon q _ z y))
+      slot-none j y = sym (ap₂ (λ (b : Bool) (o : Option Mon). orElse b 1 (slotBy o j)) (sym e ∙ h) (no-mon q (compiledOf ops nums first count nodes nfirst ncount) z y))
 
       module _ (y : q ≡ true) where
-        pub bits-some : (b : ℕ) → Summed nodes nfirst ncount b → Bits b ≡ ruleBitsOf ops nums first count nodes nfirst ncount
+        pub bits-some : (b : ℕ) → Summed nodes nfirst ncount b → given b ≡ ruleBitsOf ops nums first count nodes nfirst ncount
         unfolding ruleBitsOf
         bits-some b s =
             let (m, p) = some-mon q _ z y in
-            ap Bits (s .is ∙ table-bits ops nums first count nodes nfirst ncount m p) ∙ sym (ap₂ bitsBy (sym e ∙ h) p)
+            ap given (s .is ∙ table-bits ops nums first count nodes nfirst ncount m p) ∙ sym (ap₂ (λ (b : Bool) (o : Option Mon). orElse b 1 (bitsBy o)) (sym e ∙ h) p)
 
-        slot-by : (j : ℕ) (m : Mon) → compiledOf ops nums first count nodes nfirst ncount ≡ some m → nodeSlotOf ops nums first count nodes nfirst ncount j ≡ pickSlot (ltb j ncount) (At (slotIn (rowPieces nodes nfirst ncount) j)) (SlotRefused 2)
+        slot-by : (j : ℕ) (m : Mon) → compiledOf ops nums first count nodes nfirst ncount ≡ some m → nodeSlotOf ops nums first count nodes nfirst ncount j ≡ orElse (ltb j ncount) 2 (given (slotIn (rowPieces nodes nfirst ncount) j))
         unfolding nodeSlotOf
         slot-by j m p =
             let (f, u) = over-formula ops nums first count nodes nfirst ncount m p in
             let r : pieces m ≡ rowPieces nodes nfirst ncount = sym (rows-pieces f first nodes nfirst ncount m u) in
-            ap₂ (λ (b : Bool) (o : Option Mon). slotBy b o j) (sym e ∙ h) p
-            ∙ ap₂ (λ (k : ℕ) (ps : List Piece). pickSlot (ltb j k) (At (slotIn ps j)) (SlotRefused 2)) (ap length r ∙ rows-length nfirst ncount) r
+            ap₂ (λ (b : Bool) (o : Option Mon). orElse b 1 (slotBy o j)) (sym e ∙ h) p
+            ∙ ap₂ (λ (k : ℕ) (ps : List Piece). orElse (ltb j k) 2 (given (slotIn ps j))) (ap length r ∙ rows-length nfirst ncount) r
 
-        pub slot-past : (j : ℕ) → ncount ≤ j → SlotRefused 2 ≡ nodeSlotOf ops nums first count nodes nfirst ncount j
+        pub slot-past : (j : ℕ) → ncount ≤ j → refused 2 ≡ nodeSlotOf ops nums first count nodes nfirst ncount j
         slot-past j n =
             let (m, p) = some-mon q _ z y in
-            sym (slot-by j m p ∙ ap (λ (b : Bool). pickSlot b (At (slotIn (rowPieces nodes nfirst ncount) j)) (SlotRefused 2)) (le-ltb _ _ n))
+            sym (slot-by j m p ∙ ap (λ (b : Bool). orElse b 2 (given (slotIn (rowPieces nodes nfirst ncount) j))) (le-ltb _ _ n))
 
-        pub slot-at : (j : ℕ) (s : Slot) → j < ncount → s ≡ slotIn (rowPieces nodes nfirst ncount) j → At s ≡ nodeSlotOf ops nums first count nodes nfirst ncount j
+        pub slot-at : (j : ℕ) (s : Slot) → j < ncount → s ≡ slotIn (rowPieces nodes nfirst ncount) j → given s ≡ nodeSlotOf ops nums first count nodes nfirst ncount j
         slot-at j s n u =
             let (m, p) = some-mon q _ z y in
-            ap At u ∙ sym (slot-by j m p ∙ ap (λ (b : Bool). pickSlot b (At (slotIn (rowPieces nodes nfirst ncount) j)) (SlotRefused 2)) (lt-ltb _ _ n))
+            ap given u ∙ sym (slot-by j m p ∙ ap (λ (b : Bool). orElse b 2 (given (slotIn (rowPieces nodes nfirst ncount) j))) (lt-ltb _ _ n))
 
   pub part-compiled : (q : Bool) → q ≡ isSome (compiledOf ops nums first count nodes nfirst ncount) → q ≡ true → Part nodes nfirst ncount
   part-compiled q z y =

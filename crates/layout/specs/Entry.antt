@@ -1,18 +1,23 @@
 -- What the layout calls answer for what they are lent, with refusals 1 and 2.
+--     bitsResult, slotResult, laidResult    document 01's result of each answer enum
 --     ruleBitsOf    the bits of a rule
 --     nodeSlotOf    a node's own bits and where they begin, counted from the rule's first bit
---     layoutOf      first bits and bits of a book's rules: the enum's value and both outputs afterwards
-use mathlib.Core.Bool.{Bool, true, false, _&&_}
-use mathlib.Core.List.{List}
+--     layoutOf      first bits and bits of a book's rules: the result and both outputs afterwards
+use mathlib.Core.Bool.{Bool, true, false, _&&_, not}
+use mathlib.Core.List.{List, [], _∷_}
 use mathlib.Core.Option.{Option, none, some}
 use Prim.Native.Nat.{ℕ, zero, suc, _≤_, _<_}
-use lib.Dec.{leb, ltb}
+use lib.Dec.{leb, ltb, eqb}
 use lib.ListN.{length, getD}
-use Rattle.formula.specs.Table.{roomy, isSome}
+use Rattle.result.specs.Result.{Result, given, refused, orElse}
+use Rattle.formula.specs.Formula.{Formula}
+use Rattle.formula.specs.Table.{roomy, isSome, ruleOf}
 use Rattle.monitor.specs.Mon.{Mon}
 use Rattle.monitor.specs.Table.{compiledOf}
+use Rattle.monitor.specs.Compile.{ruleFaults}
 use Rattle.plan.specs.Layout.{pieces, bits, slotIn}
 use Rattle.plan.specs.Book.{isZero, firstBit, filledIn}
+use Rattle.plan.specs.declared.layout.Slot.{Slot}
 use Rattle.layout.specs.declared.rule.RuleBits.{RuleBits}
 use Rattle.layout.specs.declared.rule.RuleBits.the-variants.{Bits, Refused as BitsRefused}
 use Rattle.layout.specs.declared.rule.NodeSlot.{NodeSlot}
@@ -25,28 +30,30 @@ abbrev pub roomyNodes : List ℕ → List ℕ → List ℕ → Bool
 roomyNodes ops nums nodes = leb 1792 (length nodes) && roomy ops nums
 
 -- ---- one rule
-abbrev pub bitsBy : Bool → Option Mon → RuleBits
-bitsBy false m = BitsRefused 1
-bitsBy true none = BitsRefused 2
-bitsBy true (some m) = Bits (bits m)
+abbrev pub bitsResult : RuleBits → Result ℕ
+bitsResult (Bits n) = given n
+bitsResult (BitsRefused n) = refused n
 
-unfoldable pub ruleBitsOf : List ℕ → List ℕ → ℕ → ℕ → List ℕ → ℕ → ℕ → RuleBits
+abbrev pub bitsBy : Option Mon → Result ℕ
+bitsBy none = refused 2
+bitsBy (some m) = given (bits m)
+
+unfoldable pub ruleBitsOf : List ℕ → List ℕ → ℕ → ℕ → List ℕ → ℕ → ℕ → Result ℕ
 ruleBitsOf ops nums first count nodes nfirst ncount =
-    bitsBy (roomyNodes ops nums nodes) (compiledOf ops nums first count nodes nfirst ncount)
+    orElse (roomyNodes ops nums nodes) 1 (bitsBy (compiledOf ops nums first count nodes nfirst ncount))
 
-abbrev pub pickSlot : Bool → NodeSlot → NodeSlot → NodeSlot
-pickSlot true a b = a
-pickSlot false a b = b
+abbrev pub slotResult : NodeSlot → Result Slot
+slotResult (At s) = given s
+slotResult (SlotRefused n) = refused n
 
 -- a number that is no node's is 2
-abbrev pub slotBy : Bool → Option Mon → ℕ → NodeSlot
-slotBy false m j = SlotRefused 1
-slotBy true none j = SlotRefused 2
-slotBy true (some m) j = pickSlot (ltb j (length (pieces m))) (At (slotIn (pieces m) j)) (SlotRefused 2)
+abbrev pub slotBy : Option Mon → ℕ → Result Slot
+slotBy none j = refused 2
+slotBy (some m) j = orElse (ltb j (length (pieces m))) 2 (given (slotIn (pieces m) j))
 
-unfoldable pub nodeSlotOf : List ℕ → List ℕ → ℕ → ℕ → List ℕ → ℕ → ℕ → ℕ → NodeSlot
+unfoldable pub nodeSlotOf : List ℕ → List ℕ → ℕ → ℕ → List ℕ → ℕ → ℕ → ℕ → Result Slot
 nodeSlotOf ops nums first count nodes nfirst ncount j =
-    slotBy (roomyNodes ops nums nodes) (compiledOf ops nums first count nodes nfirst ncount) j
+    orElse (roomyNodes ops nums nodes) 1 (slotBy (compiledOf ops nums first count nodes nfirst ncount) j)
 
 -- ---- a book
 -- refusal 1: 64 rules in each list
@@ -55,7 +62,10 @@ roomyRules kinds refusals firsts counts nfirsts ncounts =
     leb 64 (length kinds) && (leb 64 (length refusals) && (leb 64 (length firsts)
     && (leb 64 (length counts) && (leb 64 (length nfirsts) && leb 64 (length ncounts)))))
 
--- the compiled rule of rule r, and its bits
+-- the formula of rule r, its compiled rule, and its bits
+abbrev pub ruleAt : List ℕ → List ℕ → List ℕ → List ℕ → ℕ → Option Formula
+ruleAt ops nums firsts counts r = ruleOf ops nums (getD firsts r 0) (getD counts r 0)
+
 abbrev pub monAt : List ℕ → List ℕ → List ℕ → List ℕ → List ℕ → List ℕ → List ℕ → ℕ → Option Mon
 monAt ops nums firsts counts nodes nfirsts ncounts r =
     compiledOf ops nums (getD firsts r 0) (getD counts r 0) nodes (getD nfirsts r 0) (getD ncounts r 0)
@@ -64,53 +74,68 @@ abbrev pub bitsIn : Option Mon → ℕ
 bitsIn none = 0
 bitsIn (some m) = bits m
 
--- a rule that is said to compile is one
-abbrev pub fine : Bool → Option Mon → Bool
-fine false m = true
-fine true m = isSome m
+-- the flag k says what compiling says: 0 where no refusal applies, and the nodes hold a compiled rule; else the first refusal
+abbrev pub agrees : List ℕ → ℕ → Option Mon → Bool
+agrees [] k m = eqb k 0 && isSome m
+agrees (n ∷ ns) k m = not (eqb k 0) && eqb k n
+
+-- what is no rule agrees with no flag
+abbrev pub fine : Option Formula → ℕ → Option Mon → Bool
+fine none k m = false
+fine (some f) k m = agrees (ruleFaults f) k m
 
 unfoldable pub allBelow : (ℕ → Bool) → ℕ → Bool
 allBelow ok zero = true
 allBelow ok (suc r) = allBelow ok r && ok r
 
+abbrev pub laidResult : Laid → Result Unit
+laidResult Done = given tt
+laidResult (LaidRefused n) = refused n
+
 pub data Outcome : Type 0 where
-  outcome : Laid → List ℕ → List ℕ → Outcome
+  outcome : Result Unit → List ℕ → List ℕ → Outcome
 
 abbrev pub pickOutcome : Bool → Outcome → Outcome → Outcome
 pickOutcome true a b = a
 pickOutcome false a b = b
 
 -- the rules are compiled as their flags say
-abbrev pub fineOf : List ℕ → (ℕ → Option Mon) → ℕ → Bool
-fineOf refusals mon r = fine (isZero refusals r) (mon r)
+abbrev pub fineOf : (ℕ → Option Formula) → List ℕ → (ℕ → Option Mon) → ℕ → Bool
+fineOf rule refusals mon r = fine (rule r) (getD refusals r 0) (mon r)
 
-abbrev pub sound : List ℕ → (ℕ → Option Mon) → ℕ → Bool
-sound refusals mon n = leb n 64 && allBelow (fineOf refusals mon) n
+abbrev pub sound : (ℕ → Option Formula) → List ℕ → (ℕ → Option Mon) → ℕ → Bool
+sound rule refusals mon n = leb n 64 && allBelow (fineOf rule refusals mon) n
 
 abbrev pub laidOut : List ℕ → List ℕ → (ℕ → Option Mon) → ℕ → List ℕ → List ℕ → Outcome
 laidOut kinds refusals mon n starts bits =
-    outcome Done
+    outcome (given tt)
     (filledIn (isZero refusals) (firstBit n (isZero kinds) (isZero refusals) (λ r. bitsIn (mon r))) starts n)
     (filledIn (isZero refusals) (λ r. bitsIn (mon r)) bits n)
 
-unfoldable pub layoutOf : List ℕ → List ℕ → List ℕ → List ℕ → List ℕ → List ℕ → List ℕ → List ℕ → List ℕ → ℕ → List ℕ → List ℕ → Outcome
+unfoldable pub layoutOf : List ℕ → List ℕ → List ℕ → List ℕ → List ℕ → List ℕ → List ℕ → List ℕ → List ℕ → ℕ → List ℕ → List ℕ
+    → Outcome
 layoutOf ops nums firsts counts nodes nfirsts ncounts kinds refusals n starts bits =
     pickOutcome
-    (roomyNodes ops nums nodes && (roomyRules kinds refusals firsts counts nfirsts ncounts && (leb 64 (length starts) && leb 64 (length bits))))
-    (pickOutcome (sound refusals (monAt ops nums firsts counts nodes nfirsts ncounts) n)
+    (roomyNodes ops nums nodes
+    && (roomyRules kinds refusals firsts counts nfirsts ncounts && (leb 64 (length starts) && leb 64 (length bits))))
+    (pickOutcome (sound (ruleAt ops nums firsts counts) refusals (monAt ops nums firsts counts nodes nfirsts ncounts) n)
     (laidOut kinds refusals (monAt ops nums firsts counts nodes nfirsts ncounts) n starts bits)
-    (outcome (LaidRefused 2) starts bits))
-    (outcome (LaidRefused 1) starts bits)
+    (outcome (refused 2) starts bits))
+    (outcome (refused 1) starts bits)
 
--- ---- what the inner calls ask: rule r, or all rules below n, are in the lists
-pub record InRules (refusals firsts counts nfirsts ncounts : List ℕ) (r : ℕ) : Type 0 where
+-- ---- what the inner calls ask: room in the formula table, and rule r, or all rules below n, in the lists
+pub record InRules (ops nums refusals firsts counts nfirsts ncounts : List ℕ) (r : ℕ) : Type 0 where
+  pub in-ops : 1024 ≤ length ops
+  pub in-nums : 1024 ≤ length nums
   pub in-refusals : r < length refusals
   pub in-firsts : r < length firsts
   pub in-counts : r < length counts
   pub in-nfirsts : r < length nfirsts
   pub in-ncounts : r < length ncounts
 
-pub record InRulesUpto (refusals firsts counts nfirsts ncounts : List ℕ) (n : ℕ) : Type 0 where
+pub record InRulesUpto (ops nums refusals firsts counts nfirsts ncounts : List ℕ) (n : ℕ) : Type 0 where
+  pub in-ops : 1024 ≤ length ops
+  pub in-nums : 1024 ≤ length nums
   pub in-refusals : n ≤ length refusals
   pub in-firsts : n ≤ length firsts
   pub in-counts : n ≤ length counts

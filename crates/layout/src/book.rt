@@ -1,9 +1,12 @@
 // First bits and bits of a book's rules.
+use compiler::Compiled;
+use compiler::compile_formula;
+use formula::table::is_rule;
+use monitor::table::is_compiled;
 ghost use mathlib.Core.Path.{_≡_};
 ghost use Prim.Native.Nat.{_<_, _≤_};
 ghost use lib.ListN.{length};
-ghost use Rattle.plan.specs.Book.{isZero};
-ghost use Rattle.layout.specs.Entry.{roomyRules, monAt, fine, fineOf, allBelow, outcome, layoutOf, InRules, InRulesUpto};
+ghost use Rattle.layout.specs.Entry.{roomyRules, ruleAt, monAt, fineOf, allBelow, laidResult, outcome, layoutOf, InRules, InRulesUpto};
 
 // The layout is made, or a refusal's number.
 pub enum Laid {
@@ -20,7 +23,8 @@ fn rules_fit(
     nfirsts: &[usize],
     ncounts: &[usize],
 ) -> bool
-    ensures { λ r. ⌜ r ≡ roomyRules (now (kinds .entry)) (now (refusals .entry)) (now (firsts .entry)) (now (counts .entry)) (now (nfirsts .entry)) (now (ncounts .entry)) ⌝ }
+    ensures { λ r. ⌜ r ≡ roomyRules (now (kinds .entry)) (now (refusals .entry))
+        (now (firsts .entry)) (now (counts .entry)) (now (nfirsts .entry)) (now (ncounts .entry)) ⌝ }
 {
     if kinds.len() < 64 {
         return false;
@@ -43,7 +47,7 @@ fn rules_fit(
     true
 }
 
-// Whether rule r, if it is said to compile, does.
+// Whether rule r is compiled as its flag says.
 fn fine_at(
     ops: &[u8],
     nums: &[u64],
@@ -55,24 +59,38 @@ fn fine_at(
     refusals: &[u64],
     r: usize,
 ) -> bool
-    requires { ⌜ InRules (now refusals) (now firsts) (now counts) (now nfirsts) (now ncounts) r ⌝ }
-    ensures { λ b. ⌜ b ≡ fine (isZero (now (refusals .entry)) r) (monAt (now (ops .entry)) (now (nums .entry)) (now (firsts .entry)) (now (counts .entry)) (now (nodes .entry)) (now (nfirsts .entry)) (now (ncounts .entry)) r) ⌝ }
+    requires { ⌜ InRules (now ops) (now nums) (now refusals) (now firsts) (now counts) (now nfirsts) (now ncounts) r ⌝ }
+    ensures { λ b. ⌜ b ≡ fineOf
+        (ruleAt (now (ops .entry)) (now (nums .entry)) (now (firsts .entry)) (now (counts .entry)))
+        (now (refusals .entry))
+        (monAt (now (ops .entry)) (now (nums .entry)) (now (firsts .entry)) (now (counts .entry))
+        (now (nodes .entry)) (now (nfirsts .entry)) (now (ncounts .entry))) r ⌝ }
 {
-    if refusals[r] != 0 {
-        return true;
+    let first = firsts[r];
+    let count = counts[r];
+    let flag = refusals[r];
+    if !is_rule(ops, nums, first, count) {
+        return false;
     }
-    monitor::table::is_compiled(
-        ops,
-        nums,
-        firsts[r],
-        counts[r],
-        nodes,
-        nfirsts[r],
-        ncounts[r],
-    )
+    let mut aside = [0u64; 1792];
+    let answer = compile_formula(ops, nums, first, count, &mut aside);
+    match answer {
+        Compiled::Nodes(_) => {
+            if flag != 0 {
+                return false;
+            }
+            return is_compiled(ops, nums, first, count, nodes, nfirsts[r], ncounts[r]);
+        }
+        Compiled::Refused(k) => {
+            if flag == 0 {
+                return false;
+            }
+            return flag == k;
+        }
+    }
 }
 
-// Whether each of n rules that is said to compile does.
+// Whether each of n rules is compiled as its flag says.
 fn all_fine(
     ops: &[u8],
     nums: &[u64],
@@ -84,8 +102,12 @@ fn all_fine(
     refusals: &[u64],
     n: usize,
 ) -> bool
-    requires { ⌜ InRulesUpto (now refusals) (now firsts) (now counts) (now nfirsts) (now ncounts) n ⌝ }
-    ensures { λ b. ⌜ b ≡ allBelow (fineOf (now (refusals .entry)) (monAt (now (ops .entry)) (now (nums .entry)) (now (firsts .entry)) (now (counts .entry)) (now (nodes .entry)) (now (nfirsts .entry)) (now (ncounts .entry)))) n ⌝ }
+    requires { ⌜ InRulesUpto (now ops) (now nums) (now refusals) (now firsts) (now counts) (now nfirsts) (now ncounts) n ⌝ }
+    ensures { λ b. ⌜ b ≡ allBelow (fineOf
+        (ruleAt (now (ops .entry)) (now (nums .entry)) (now (firsts .entry)) (now (counts .entry)))
+        (now (refusals .entry))
+        (monAt (now (ops .entry)) (now (nums .entry)) (now (firsts .entry)) (now (counts .entry))
+        (now (nodes .entry)) (now (nfirsts .entry)) (now (ncounts .entry)))) n ⌝ }
 {
     let mut r: usize = 0;
     while r < n {
@@ -122,7 +144,10 @@ pub fn layout(
     starts: &mut [u64],
     bits: &mut [u64],
 ) -> Laid
-    ensures { λ r. ⌜ outcome r (now (starts .exit)) (now (bits .exit)) ≡ layoutOf (now (ops .entry)) (now (nums .entry)) (now (firsts .entry)) (now (counts .entry)) (now (nodes .entry)) (now (nfirsts .entry)) (now (ncounts .entry)) (now (kinds .entry)) (now (refusals .entry)) n (now (starts .entry)) (now (bits .entry)) ⌝ }
+    ensures { λ r. ⌜ outcome (laidResult r) (now (starts .exit)) (now (bits .exit)) ≡ layoutOf
+        (now (ops .entry)) (now (nums .entry)) (now (firsts .entry)) (now (counts .entry))
+        (now (nodes .entry)) (now (nfirsts .entry)) (now (ncounts .entry))
+        (now (kinds .entry)) (now (refusals .entry)) n (now (starts .entry)) (now (bits .entry)) ⌝ }
 {
     if !crate::rule::is_wide(ops, nums, nodes) {
         return Laid::Refused(1);

@@ -1,7 +1,7 @@
 // The bits of one compiled rule and of its nodes.
 use plan::layout::Slot;
 ghost use mathlib.Core.Path.{_≡_};
-ghost use Rattle.layout.specs.Entry.{roomyNodes, ruleBitsOf, nodeSlotOf};
+ghost use Rattle.layout.specs.Entry.{roomyNodes, bitsResult, ruleBitsOf, slotResult, nodeSlotOf};
 
 // The bits of a rule, or a refusal's number.
 pub enum RuleBits {
@@ -35,7 +35,7 @@ pub fn rule_layout(
     nfirst: usize,
     ncount: usize,
 ) -> RuleBits
-    ensures { λ r. ⌜ r ≡ ruleBitsOf (now (ops .entry)) (now (nums .entry)) first count (now (nodes .entry)) nfirst ncount ⌝ }
+    ensures { λ r. ⌜ bitsResult r ≡ ruleBitsOf (now (ops .entry)) (now (nums .entry)) first count (now (nodes .entry)) nfirst ncount ⌝ }
 {
     if !is_wide(ops, nums, nodes) {
         return RuleBits::Refused(1);
@@ -57,7 +57,7 @@ pub fn node_slot(
     ncount: usize,
     j: usize,
 ) -> NodeSlot
-    ensures { λ r. ⌜ r ≡ nodeSlotOf (now (ops .entry)) (now (nums .entry)) first count (now (nodes .entry)) nfirst ncount j ⌝ }
+    ensures { λ r. ⌜ slotResult r ≡ nodeSlotOf (now (ops .entry)) (now (nums .entry)) first count (now (nodes .entry)) nfirst ncount j ⌝ }
 {
     if !is_wide(ops, nums, nodes) {
         return NodeSlot::Refused(1);

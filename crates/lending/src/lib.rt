@@ -5,14 +5,17 @@ use in_place::Monitor;
 use in_place::fresh::Started;
 use in_place::step::Advanced;
 use node_table::FormulaNode;
+use split::parts::Liveness;
 use table_calls::compile_table;
+use table_calls::split_table;
 use table_step::fresh_table;
 use table_step::step_table;
 ghost use mathlib.Core.Path.{_≡_};
-ghost use lib.ListN.{take};
 ghost use Rattle.compiler.specs.Compiled.{Answers, compileCall};
 ghost use Rattle.in_place.specs.InPlace.{freshIn, stepIn};
 ghost use Rattle.node_table.specs.Node.{opsOf, numsOf};
+ghost use Rattle.split.specs.Held.{outcome, splitting};
+ghost use Rattle.table_step.specs.Over.{over};
 
 // Steps a monitor once in place, over a table of node structs.
 pub fn step_over(
@@ -26,7 +29,7 @@ pub fn step_over(
     s: u64,
     w: u64,
 ) -> Advanced
-    ensures { λ r. ⌜ r ≡ stepIn (record { ops = opsOf (take 1024 table); nums = numsOf (take 1024 table); first = first; count = count; nodes = now (nodes .entry); nfirst = nfirst; ncount = ncount }) m s w ⌝ }
+    ensures { λ r. ⌜ r ≡ stepIn (over table first count (now (nodes .entry)) nfirst ncount) m s w ⌝ }
 {
     let verdict = step_table(&mut m, &table, first, count, nodes, nfirst, ncount, s, w);
     Advanced {
@@ -45,7 +48,7 @@ pub fn fresh_over(
     nfirst: usize,
     ncount: usize,
 ) -> Started
-    ensures { λ r. ⌜ r ≡ freshIn (record { ops = opsOf (take 1024 table); nums = numsOf (take 1024 table); first = first; count = count; nodes = now (nodes .entry); nfirst = nfirst; ncount = ncount }) m ⌝ }
+    ensures { λ r. ⌜ r ≡ freshIn (over table first count (now (nodes .entry)) nfirst ncount) m ⌝ }
 {
     let outcome = fresh_table(&mut m, &table, first, count, nodes, nfirst, ncount);
     Started {
@@ -61,7 +64,24 @@ pub fn compile_over(
     count: usize,
     out: &mut [u64],
 ) -> Compiled
-    ensures { λ r. ⌜ Answers (compileCall (opsOf (take 1024 table)) (numsOf (take 1024 table)) first count (now (out .entry))) r (now (out .exit)) ⌝ }
+    ensures { λ r. ⌜ Answers (compileCall (opsOf table) (numsOf table) first count (now (out .entry))) r (now (out .exit)) ⌝ }
 {
     compile_table(&table, first, count, out)
+}
+
+// Splits a rule of a table of node structs.
+pub fn split_over(
+    table: [FormulaNode; 1024],
+    first: usize,
+    count: usize,
+    assumption: bool,
+    skeleton: &mut [u64],
+    owed: &mut [u64],
+) -> Liveness
+    ensures { λ r. ⌜
+        outcome r (now (skeleton .exit)) (now (owed .exit))
+        ≡ splitting (opsOf table) (numsOf table) first count assumption (now (skeleton .entry)) (now (owed .entry))
+        ⌝ }
+{
+    split_table(&table, first, count, assumption, skeleton, owed)
 }

@@ -30,20 +30,15 @@ fields-whole (b ∷ r) h = go (eqb b 9) refl (fields-whole r) h
     go true q ih h = absurd (omega arith)
     go false q ih h = rw (ih (omega arith)) refl
 
--- a text that is not empty: its first line, and the lines past it
-lines-whole : (l : List ℕ) → firstAt 10 l ≡ length l → 1 ≤ length l → lines l ≡ l ∷ []
+-- it does not: there is no line
+pub lines-none : (l : List ℕ) → firstAt 10 l ≡ length l → lines l ≡ []
 unfolding parts firstAt onto
-lines-whole [] h k = absurd (omega arith)
-lines-whole (b ∷ []) h k = go (eqb b 10) refl h
+lines-none [] h = refl
+lines-none (b ∷ r) h = go (eqb b 10) (lines-none r) h
   where
-    go : (t : Bool) → eqb b 10 ≡ t → pick t zero (suc zero) ≡ suc zero → pick t ([] ∷ []) (onto b []) ≡ (b ∷ []) ∷ []
-    go true q h = absurd (omega arith)
-    go false q h = refl
-lines-whole (b ∷ c ∷ r) h k = go (eqb b 10) refl (lines-whole (c ∷ r)) h
-  where
-    go : (t : Bool) → eqb b 10 ≡ t → (firstAt 10 (c ∷ r) ≡ length (c ∷ r) → 1 ≤ length (c ∷ r) → lines (c ∷ r) ≡ (c ∷ r) ∷ []) → pick t zero (suc (firstAt 10 (c ∷ r))) ≡ suc (length (c ∷ r)) → pick t ([] ∷ lines (c ∷ r)) (onto b (lines (c ∷ r))) ≡ (b ∷ c ∷ r) ∷ []
-    go true q ih h = absurd (omega arith)
-    go false q ih h = rw (ih (omega arith) (omega arith)) refl
+    go : (t : Bool) → (firstAt 10 r ≡ length r → lines r ≡ []) → pick t zero (suc (firstAt 10 r)) ≡ suc (length r) → pick t ([] ∷ lines r) (onto b (lines r)) ≡ []
+    go true ih h = absurd (omega arith)
+    go false ih h = rw (ih (omega arith)) refl
 
 pub first-inside : (c : ℕ) (l : List ℕ) → firstAt c l ≤ length l
 unfolding firstAt
@@ -54,12 +49,21 @@ first-inside c (b ∷ r) = go (eqb b c) (first-inside c r)
     go true h = omega arith
     go false h = omega arith
 
-pub lines-next : (l : List ℕ) (n : ℕ) → Found 10 l n → 1 ≤ length l → lines l ≡ take n l ∷ lines (drop (n + 1) l)
+-- the first line, and the lines past it
+pub lines-next : (l : List ℕ) (n : ℕ) → Found 10 l n → n < length l → lines l ≡ take n l ∷ lines (drop (n + 1) l)
+lines-next l n f h = rw (add-one, f .is) (parts-cut 10 [] l (subst (λ (m : ℕ). m < length l) (f .is) h))
+
+-- no more lines than bytes
+onto-few : (b : ℕ) (ps : List (List ℕ)) → length (onto b ps) ≤ suc (length ps)
+unfolding onto
+onto-few b [] = omega arith
+onto-few b (p ∷ ps) = omega arith
+
+part-few : (b : ℕ) (ps : List (List ℕ)) (n : ℕ) (t : Bool) → length ps ≤ n → length (pick t ([] ∷ ps) (onto b ps)) ≤ suc n
+part-few b ps n true h = omega arith
+part-few b ps n false h = omega (arith, onto-few b ps)
+
+pub lines-few : (l : List ℕ) → length (lines l) ≤ length l
 unfolding parts
-lines-next l n f h = go (Rattle.number.proofs.Numbers.below-or n (length l))
-  where
-    go : mathlib.Core.Logic._⊎_ (n < length l) (length l ≤ n) → lines l ≡ take n l ∷ lines (drop (n + 1) l)
-    go (mathlib.Core.Logic.inl k) = rw (add-one, f .is) (parts-cut 10 [] l (subst (λ (m : ℕ). m < length l) (f .is) k))
-    go (mathlib.Core.Logic.inr k) =
-        let e : n ≡ length l = omega (arith, f .inside) in
-        rw (lib.Seq.take-all n l k, lib.ListN.drop-of-length-le l {i = n + 1} (omega arith)) (lines-whole l (sym (f .is) ∙ e) h)
+lines-few [] = omega arith
+lines-few (b ∷ l) = part-few b (parts 10 [] l) (length l) (eqb b 10) (lines-few l)

@@ -1,5 +1,5 @@
 -- Runs of bytes: lines end in LF, fields are parted by one tab.
---     parts c e l      l cut at each byte c; what stands past the last c is glued onto e
+--     parts c e l      l cut at each byte c; what stands past the last c goes in front of the first of e, if there is one
 --     lines, fields    of a text; of a line
 use mathlib.Core.Path.{_≡_}
 use mathlib.Core.Bool.{Bool, true, false, _&&_}
@@ -9,16 +9,16 @@ use lib.Dec.{eqb}
 use lib.ListN.{length}
 use Rattle.number.specs.Number.{pick}
 
--- a byte in front of the first part
+-- a byte in front of the first part, if there is one
 unfoldable pub onto : ℕ → List (List ℕ) → List (List ℕ)
-onto b [] = (b ∷ []) ∷ []
+onto b [] = []
 onto b (p ∷ ps) = (b ∷ p) ∷ ps
 
 unfoldable pub parts : ℕ → List (List ℕ) → List ℕ → List (List ℕ)
 parts c e [] = e
 parts c e (b ∷ r) = pick (eqb b c) ([] ∷ parts c e r) (onto b (parts c e r))
 
--- the lines of a text: nothing stands past the last LF
+-- the lines of a text: each ends in LF, and what stands past the last LF is no line
 abbrev pub lines : List ℕ → List (List ℕ)
 lines = parts 10 []
 

@@ -25,6 +25,7 @@ use Rattle.listing_size.proofs.Handing.{handed, refused-listing}
 use Rattle.stepped_lines.specs.Holding.{Rows}
 use Rattle.stepped_lines.specs.Stepped.{StepsDue, StepsReported}
 use Rattle.stepped_lines.proofs.Tables.{tabled-rows}
+use Rattle.result.specs.Result.{given}
 use Rattle.listing.specs.declared.whole.Listed.{Listed}
 use Rattle.listing.specs.declared.whole.Listed.the-variants.{Text, Refused}
 use Rattle.listing.specs.Whole.{Read, Holds, Known, HeadListed, Compiled, TailListed, reportsFrom, tailText}
@@ -47,7 +48,7 @@ module _ (text out out′ : List ℕ) (n : ℕ) (w : Wrote (tape out 0) (listing
 
   pub listed : Answers (listCall text out) (Text n) out′
   unfolding listCall
-  listed = rw (le-leb 262144 (length out) h) record { answers = ap Text (stood .0); leaves = whole }
+  listed = rw (le-leb 262144 (length out) h) record { answers = ap given (stood .0); leaves = whole }
 
   pub listed-within : n ≤ length out′
   listed-within = omega (arith, stood .0, ap length whole ∙ length-append (listing text) (drop (length (listing text)) out), length-drop (length (listing text)) out, fits)

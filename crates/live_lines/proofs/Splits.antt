@@ -17,9 +17,10 @@ use Rattle.formula.specs.Table.{nodeAt}
 use Rattle.formula.proofs.Cases.{below-or}
 use Rattle.liveness.specs.Split.{Obligation, Skeleton, safety, owed, Not, And, Or, Implies, skeletonOf, obligationsOf, owes, Answer, none, parts, refused}
 use Rattle.liveness.specs.Text.{skeletonText}
-use Rattle.split.specs.Held.{entries, skeletonCells, Outcome, outcome, held}
+use Rattle.split.specs.Held.{entries, skeletonCells, resultOf, Outcome, outcome, held}
 use Rattle.split.proofs.Cells.{cells-length}
 use Rattle.split.specs.declared.parts.Liveness.{Liveness}
+use Rattle.split.proofs.Splits.{result-inj}
 use Rattle.split.specs.declared.parts.Liveness.the-variants.{None, Parts, Refused}
 use Rattle.book_laws.specs.Write.{decimal}
 use Rattle.text.proofs.Tapes.{append-nil}
@@ -61,10 +62,10 @@ Stood ops nums (parts sk os) s = SkeletonStands ops nums sk × (2 * entries sk �
 
 pub live-answer : (ops nums : List ℕ) (x : Answer) (r : Liveness) (s s′ o o′ : List ℕ) → outcome r s′ o′ ≡ held x s o → Stood ops nums x s → liveText ops nums r s′ ≡ liveLine x
 unfolding liveText liveLine
-live-answer ops nums none r s s′ o o′ e h = let p : r ≡ None = cc in ap (λ (y : Liveness). liveText ops nums y s′) p
-live-answer ops nums (refused n) r s s′ o o′ e h = let p : r ≡ Refused n = cc in ap (λ (y : Liveness). liveText ops nums y s′) p
+live-answer ops nums none r s s′ o o′ e h = let p : r ≡ None = result-inj r None (cc) in ap (λ (y : Liveness). liveText ops nums y s′) p
+live-answer ops nums (refused n) r s s′ o o′ e h = let p : r ≡ Refused n = result-inj r (Refused n) (cc) in ap (λ (y : Liveness). liveText ops nums y s′) p
 live-answer ops nums (parts sk os) r s s′ o o′ e h =
-    let p : r ≡ Parts (entries sk) (length os) = cc in
+    let p : r ≡ Parts (entries sk) (length os) = result-inj r (Parts (entries sk) (length os)) (cc) in
     let q : s′ ≡ sets s 0 (skeletonCells sk) = cc in
     let rest : List ℕ = drop (0 + length (skeletonCells sk)) s in
     let t : entriesText ops nums (entries sk) s′ ≡ marksText (skeletonText sk) =
@@ -126,10 +127,10 @@ module _ (ops nums : List ℕ) where
 
   -- what the `live` line asks, from the split's output
   pub answer-ready : (x : Answer) (r : Liveness) (s s′ o o′ : List ℕ) → outcome r s′ o′ ≡ held x s o → Stood ops nums x s → LiveReady ops nums r s′
-  answer-ready none r s s′ o o′ e h = let p : r ≡ None = cc in subst (λ (y : Liveness). LiveReady ops nums y s′) (sym p) (omega arith)
-  answer-ready (refused n) r s s′ o o′ e h = let p : r ≡ Refused n = cc in subst (λ (y : Liveness). LiveReady ops nums y s′) (sym p) (omega arith)
+  answer-ready none r s s′ o o′ e h = let p : r ≡ None = result-inj r None (cc) in subst (λ (y : Liveness). LiveReady ops nums y s′) (sym p) (omega arith)
+  answer-ready (refused n) r s s′ o o′ e h = let p : r ≡ Refused n = result-inj r (Refused n) (cc) in subst (λ (y : Liveness). LiveReady ops nums y s′) (sym p) (omega arith)
   answer-ready (parts sk os) r s s′ o o′ e h =
-      let p : r ≡ Parts (entries sk) (length os) = cc in
+      let p : r ≡ Parts (entries sk) (length os) = result-inj r (Parts (entries sk) (length os)) (cc) in
       let q : s′ ≡ sets s 0 (skeletonCells sk) = cc in
       let rest : List ℕ = drop (0 + length (skeletonCells sk)) s in
       let l : s′ ≡ skeletonCells sk ++ rest = q ∙ cells-front sk s (h .1) in

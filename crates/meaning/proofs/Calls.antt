@@ -1,26 +1,27 @@
 -- A list of step calls: refused ones leave no trace, and the accepted ones are the steps of a record.
 use mathlib.Core.Path.{_≡_, refl, sym, ap, ap₂, subst, _∙_}
-use mathlib.Core.Bool.{Bool, true, false}
+use mathlib.Core.Bool.{Bool, true, false, cond}
 use mathlib.Core.List.{List, [], _∷_, _++_}
 use mathlib.Core.Option.{Option, none, some}
-use mathlib.Core.Logic.{⊎-elim, _↔_}
+use mathlib.Core.Logic.{inl, inr, ⊎-elim, _↔_}
 use Prim.Native.Nat.{ℕ, suc, _+_, _<_}
 use native.Mathlib.Omega.{arith}
 use native.Mathlib.Nat.{add-zero, zero-add}
 use lib.ListN.{length, getD, length-append, List·getD-append}
-use lib.Seq.{getD-append-seam}
+use lib.Seq.{getD-append-add}
 use lib.IntN.{ℤ}
 use Rattle.formula.proofs.Cases.{below-or, true-false}
+use Rattle.formula.proofs.Trees.{some-inj}
 use Rattle.monitor.specs.declared.range.AnchorRange.{AnchorRange}
 use Rattle.monitor.specs.Mon.{Signal, range-check, delayed-check, obligation, Mon, check, And, Or}
 use Rattle.meaning.specs.Alarm.{Record, during, triggers, windowEnd, CheckAlarm, Alarm, First}
 use Rattle.meaning.specs.Culprit.{Culprit, Report}
 use Rattle.meaning.specs.State.{ObligationState, State, culprit, fresh, step, newlyFailed, after, EachNode, IfObligation, EachObligation}
-use Rattle.meaning.specs.Calls.{Call, refused, accepted, stepCall, stepAll, answerOf, InOrder, words, steps, Over, orElse, firstReport}
-use Rattle.meaning.specs.Meaning.{Sound, NodeSound, Means, Judged}
+use Rattle.meaning.specs.Calls.{Call, refused, accepted, stepAll, reportOf, AcceptedAt, Below, InOrder, words, steps, Over, firstReport}
+use Rattle.meaning.specs.Meaning.{Sound, NodeSound, Judged}
 use Rattle.meaning.proofs.Windows.{Kept, kept-marked, kept-names}
 use Rattle.meaning.proofs.Steps.{and-left, and-right, or-left, or-right, obligation-kept, marked, reports}
-use Rattle.meaning.proofs.Culprits.{culprits}
+use Rattle.meaning.proofs.Culprits.{culprits, first-unique}
 
 -- ---- each obligation of the tree
 obligation-sound : (rec : Record) (k b : ℕ) (p q : Signal) (r : AnchorRange) (o : ObligationState) → Kept b (triggers r p rec) (during q rec) k o → Sound rec k b p q r o
@@ -79,6 +80,11 @@ in-order-split k (accepted s w ∷ cs) ds h =
     let (f, g) = in-order-split (suc k) cs ds (h .1) in
     ((h .0, f), subst (λ (i : ℕ). InOrder i ds) (omega arith) g)
 
+pub stepped-append : (m : Mon) (st : State m) (cs ds : List Call) → stepAll m st (cs ++ ds) ≡ stepAll m (stepAll m st cs) ds
+unfolding stepAll
+stepped-append m st [] ds = refl
+stepped-append m st (c ∷ cs) ds = stepped-append m _ cs ds
+
 -- calls in order over a record's own words are its steps
 module _ (m : Mon) (rec : Record) where
   pub stepped : (k : ℕ) (cs : List Call) → InOrder k cs → ((i : ℕ) → i < steps cs → getD (words cs) i 0 ≡ rec (k + i)) → stepAll m (after m rec k) cs ≡ after m rec (k + steps cs)
@@ -93,11 +99,17 @@ module _ (m : Mon) (rec : Record) where
       ∙ stepped (suc k) cs (h .1) (λ i q. e (suc i) (omega arith) ∙ ap rec (y i))
       ∙ ap (after m rec) z
 
-over-part : (rec : Record) (before rest : List Call) → Over rec (before ++ rest) → Over rec before
+pub over-part : (rec : Record) (before rest : List Call) → Over rec (before ++ rest) → Over rec before
 over-part rec before rest o i z =
     sym (List·getD-append (words before) (words rest) 0 i z)
     ∙ ap (λ (l : List ℕ). getD l i 0) (sym (words-append before rest))
     ∙ o i (omega (arith, ap length (words-append before rest), length-append (words before) (words rest)))
+
+pub over-rest : (rec : Record) (before rest : List Call) → Over rec (before ++ rest) → (i : ℕ) → i < steps rest → getD (words rest) i 0 ≡ rec (steps before + i)
+over-rest rec before rest o i z =
+    sym (getD-append-add (words before) (words rest) i 0)
+    ∙ ap (λ (l : List ℕ). getD l (steps before + i) 0) (sym (words-append before rest))
+    ∙ o (steps before + i) (omega (arith, ap length (words-append before rest), length-append (words before) (words rest)))
 
 module _ (m : Mon) (rec : Record) (before rest : List Call) (h : InOrder 0 (before ++ rest)) (o : Over rec (before ++ rest)) where
   -- the state after a first part of the calls
@@ -107,59 +119,45 @@ module _ (m : Mon) (rec : Record) (before rest : List Call) (h : InOrder 0 (befo
       stepped m rec 0 before (in-order-split 0 before rest h .0) (λ i z. over-part rec before rest o i z ∙ ap rec (sym (zero-add i)))
       ∙ ap (after m rec) (zero-add (steps before))
 
--- an accepted call stands at its own step of the record, with its own word
-module _ (m : Mon) (rec : Record) (before rest : List Call) (s w : ℕ) (h : InOrder 0 (before ++ accepted s w ∷ rest)) (o : Over rec (before ++ accepted s w ∷ rest)) where
-  at-step : s ≡ steps before
-  unfolding InOrder
-  at-step = in-order-split 0 before (accepted s w ∷ rest) h .1 .0 ∙ zero-add (steps before)
+-- ---- what calls in order over a record's own words report
+none-some : {s : ℕ} → _≡_ {A = Option ℕ} none (some s) → ⊥
+none-some e = let z : _≡_ {A = ℕ} 0 1 = cc in omega arith
 
-  at-word : w ≡ rec s
-  unfolding words
-  at-word =
-      sym (ap₂ (λ (l : List ℕ) (i : ℕ). getD l i 0) (words-append before (accepted s w ∷ rest)) at-step ∙ getD-append-seam (words before) w (words rest) 0)
-      ∙ o s (omega (arith, at-step, ap length (words-append before (accepted s w ∷ rest)), length-append (words before) (w ∷ words rest)))
+-- one accepted call, and those behind it
+module _ (m : Mon) (rec : Record) (k t w s : ℕ) (cs : List Call) (there : t ≡ k) (word : w ≡ rec k) (later : (reportOf m (after m rec (suc k)) cs ≡ some s) ↔ (AcceptedAt s cs × First (Alarm m rec) s)) where
+  here : (b : Bool) → newlyFailed m (after m rec k) k (rec k) ≡ b → reportOf m (after m rec k) (accepted t w ∷ cs) ≡ cond b (some k) (reportOf m (after m rec (suc k)) cs)
+  unfolding reportOf after
+  here b q =
+      ap₂ (λ (i v : ℕ). cond (newlyFailed m (after m rec k) i v) (some i) (reportOf m (step m (after m rec k) i v .state) cs)) there word
+      ∙ ap (λ (x : Bool). cond x (some k) (reportOf m (step m (after m rec k) k (rec k) .state) cs)) q
 
-  state-there : stepAll m (fresh m) before ≡ after m rec s
-  state-there = stepped-part m rec before (accepted s w ∷ rest) h o ∙ ap (after m rec) (sym at-step)
-
-  answer-there : answerOf m (stepAll m (fresh m) before) (accepted s w) ≡ newlyFailed m (after m rec s) s (rec s)
-  answer-there = ap₂ (λ (st : State m) (v : ℕ). newlyFailed m st s v) state-there at-word
-
-  state-after : stepCall m (stepAll m (fresh m) before) (accepted s w) ≡ after m rec (suc s)
-  unfolding after
-  state-after = ap₂ (λ (st : State m) (v : ℕ). step m st s v .state) state-there at-word
-
-not-accepted : {s w : ℕ} {B : Type 0} → refused ≡ accepted s w → B
-not-accepted e = let z : _≡_ {A = ℕ} 0 1 = cc in absurd (omega arith)
-
--- ---- what each call reports
-module _ (m : Mon) (rec : Record) where
-  call-reports : (before : List Call) (c : Call) (rest : List Call) → InOrder 0 (before ++ c ∷ rest) → Over rec (before ++ c ∷ rest) → (answerOf m (stepAll m (fresh m) before) c ≡ true) ↔ ((s w : ℕ) × (c ≡ accepted s w) × First (Alarm m rec) s)
-  call-reports before refused rest h o = (λ e. true-false e refl, λ (s, w, e, f). not-accepted e)
-  call-reports before (accepted s w) rest h o = (
-    λ e. (s, w, refl, reports m rec s .0 (sym (answer-there m rec before rest s w h o) ∙ e)),
-    λ (t, v, e, f).
-        let i : t ≡ s = cc in
-        answer-there m rec before rest s w h o ∙ reports m rec s .1 (subst (First (Alarm m rec)) i f),
+  one-more : (b : Bool) → newlyFailed m (after m rec k) k (rec k) ≡ b → (reportOf m (after m rec k) (accepted t w ∷ cs) ≡ some s) ↔ (AcceptedAt s (accepted t w ∷ cs) × First (Alarm m rec) s)
+  unfolding AcceptedAt
+  one-more true q = (
+    λ z.
+        let i : k ≡ s = some-inj (sym (here true q) ∙ z) in
+        (inl (sym i ∙ sym there), subst (First (Alarm m rec)) i (reports m rec k .0 q)),
+    λ z. here true q ∙ ap some (first-unique (Alarm m rec) k s (reports m rec k .0 q) (z .1)),
+  )
+  one-more false q = (
+    λ z. let x = later .0 (sym (here false q) ∙ z) in (inr (x .0), x .1),
+    λ z. ⊎-elim
+        (λ i. true-false (reports m rec k .1 (subst (First (Alarm m rec)) (i ∙ there) (z .1))) q)
+        (λ x. here false q ∙ later .1 (x, z .1))
+        (z .0),
   )
 
-  call-culprit : (before : List Call) (c : Call) (rest : List Call) → InOrder 0 (before ++ c ∷ rest) → Over rec (before ++ c ∷ rest) → (s w : ℕ) → c ≡ accepted s w → answerOf m (stepAll m (fresh m) before) c ≡ true → Report m rec s (culprit m (stepCall m (stepAll m (fresh m) before) c))
-  call-culprit before refused rest h o t v e a = not-accepted e
-  call-culprit before (accepted s w) rest h o t v e a =
-      let i : s ≡ t = cc in
-      subst (λ (x : ℕ). Report m rec x (culprit m (stepCall m (stepAll m (fresh m) before) (accepted s w)))) i (record {
-        first = reports m rec s .0 (sym (answer-there m rec before rest s w h o) ∙ a);
-        culprit = subst (λ (st : State m). Culprit m rec (suc s) (culprit m st)) (sym (state-after m rec before rest s w h o)) (culprits m rec (suc s));
-      })
-
-  -- ---- the whole list
-  pub means : (calls : List Call) → InOrder 0 calls → Over rec calls → Means m rec calls
-  means calls h o = record {
-    reports = λ before c rest e. call-reports before c rest (subst (InOrder 0) e h) (subst (Over rec) e o);
-    culprits = λ before c rest e. call-culprit before c rest (subst (InOrder 0) e h) (subst (Over rec) e o);
-    obligations = λ before rest e. subst (EachObligation (Sound rec (steps before)) m) (sym (stepped-part m rec before rest (subst (InOrder 0) e h) (subst (Over rec) e o))) (obligations-sound m rec (steps before));
-    nodes = λ before rest e. subst (EachNode (NodeSound rec (steps before)) m) (sym (stepped-part m rec before rest (subst (InOrder 0) e h) (subst (Over rec) e o))) (nodes-sound m rec (steps before));
-  }
+module _ (m : Mon) (rec : Record) where
+  -- they report s exactly where one of them is accepted at s and the alarm holds at s and at no earlier step
+  pub reported : (k : ℕ) (cs : List Call) → InOrder k cs → ((i : ℕ) → i < steps cs → getD (words cs) i 0 ≡ rec (k + i)) → (s : ℕ) → (reportOf m (after m rec k) cs ≡ some s) ↔ (AcceptedAt s cs × First (Alarm m rec) s)
+  unfolding InOrder words reportOf AcceptedAt
+  reported k [] h e s = (λ z. absurd (none-some z), λ z. absurd (z .0))
+  reported k (refused ∷ cs) h e s = reported k cs h e s
+  reported k (accepted t w ∷ cs) h e s =
+      let y : (i : ℕ) → k + suc i ≡ suc k + i = λ i. omega arith in
+      one-more m rec k t w s cs (h .0) (e 0 (omega arith) ∙ ap rec (add-zero k))
+      (reported (suc k) cs (h .1) (λ i q. e (suc i) (omega arith) ∙ ap rec (y i)) s)
+      (newlyFailed m (after m rec k) k (rec k)) refl
 
 -- ---- many words at once
 module _ (m : Mon) (rec : Record) where
@@ -170,7 +168,7 @@ module _ (m : Mon) (rec : Record) where
       (below-or s t)
   judged-next s n (some x) e h = (omega (arith, h .0), omega (arith, h .1), h .2)
 
-  judged-pick : (s n : ℕ) (y : Bool) (x : Option (ℕ × ℤ)) → newlyFailed m (after m rec s) s (rec s) ≡ y → Judged m rec (suc s) n x → Judged m rec s (suc n) (orElse y (some (s, culprit m (after m rec (suc s)))) x)
+  judged-pick : (s n : ℕ) (y : Bool) (x : Option (ℕ × ℤ)) → newlyFailed m (after m rec s) s (rec s) ≡ y → Judged m rec (suc s) n x → Judged m rec s (suc n) (cond y (some (s, culprit m (after m rec (suc s)))) x)
   judged-pick s n true x e h = (omega arith, omega arith, record { first = reports m rec s .0 e; culprit = culprits m rec (suc s) })
   judged-pick s n false x e h = judged-next s n x e h
 
@@ -182,6 +180,6 @@ module _ (m : Mon) (rec : Record) where
       let e : rec s ≡ w = sym (h 0 (omega arith) ∙ ap rec (add-zero s)) in
       let y : (i : ℕ) → s + suc i ≡ suc s + i = λ i. omega arith in
       subst
-      (λ (v : ℕ). Judged m rec s (suc (length ws)) (orElse (newlyFailed m (after m rec s) s v) (some (s, culprit m (step m (after m rec s) s v .state))) (firstReport m (step m (after m rec s) s v .state) (suc s) ws)))
+      (λ (v : ℕ). Judged m rec s (suc (length ws)) (cond (newlyFailed m (after m rec s) s v) (some (s, culprit m (step m (after m rec s) s v .state))) (firstReport m (step m (after m rec s) s v .state) (suc s) ws)))
       e
       (judged-pick s (length ws) _ _ refl (judged (suc s) ws (λ i z. h (suc i) (omega arith) ∙ ap rec (y i))))

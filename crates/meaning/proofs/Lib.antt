@@ -5,8 +5,8 @@ pub mod Steps
 pub mod Culprits
 pub mod Shapes
 pub mod Calls
-pub mod Machines
 pub mod Logics
 pub mod Plains
+pub mod Machines
 pub mod Meaning
 pub mod Differences

@@ -1,51 +1,105 @@
--- A machine that follows a monitor tells what the monitor tells.
+-- A machine that follows a monitor, and keeps its memory ready, meets the demand.
+--     Lawful        what is asked of single events
+--     meets         from there to the demand
 use mathlib.Core.Path.{_≡_, refl, sym, ap, subst, _∙_}
-use mathlib.Core.Bool.{Bool, true}
-use mathlib.Core.List.{List, [], _∷_, _++_}
+use mathlib.Core.List.{List, [], _∷_, _++_, append-assoc, append-nil}
 use mathlib.Core.Logic.{_↔_}
-use Prim.Native.Nat.{ℕ}
+use mathlib.Core.Option.{Option, some}
+use Prim.Native.Nat.{ℕ, _+_, _<_}
+use native.Mathlib.Nat.{zero-add}
+use lib.ListN.{getD}
+use Rattle.formula.specs.Formula.{Formula}
 use Rattle.monitor.specs.Mon.{Mon}
+use Rattle.monitor.specs.Compile.{ruleNode}
 use Rattle.meaning.specs.Alarm.{Record, Alarm, First}
-use Rattle.meaning.specs.State.{State, fresh}
-use Rattle.meaning.specs.Calls.{accepted, stepAll, answerOf, InOrder, Over}
-use Rattle.meaning.specs.Machine.{Machine, runAll, callsOf, EachEvent, Follows, Tells}
-use Rattle.meaning.proofs.Calls.{means}
+use Rattle.meaning.specs.State.{State, EachNode, EachObligation, fresh, after}
+use Rattle.meaning.specs.Calls.{Call, accepted, stepAll, reportOf, AcceptedAt, InOrder, words, steps, Over, recordOf}
+use Rattle.meaning.specs.Meaning.{Sound, NodeSound}
+use Rattle.meaning.specs.Plain.{Plain}
+use Rattle.meaning.specs.Demand.{Machine, runAll, callsOf, Fair, AllFair, Lent, Keeps, Tells, PlainTells, Demand}
+use Rattle.meaning.proofs.Calls.{in-order-split, over-part, over-rest, stepped-append, stepped-part, reported, obligations-sound, nodes-sound}
+use Rattle.meaning.proofs.Plains.{plain-exact}
 
 module _ {Memory Event : Type 0} (k : Machine Memory Event) where
-  pub calls-append : (mem : Memory) (xs ys : List Event) → callsOf k mem (xs ++ ys) ≡ callsOf k mem xs ++ callsOf k (runAll k mem xs) ys
+  -- the memory reads as a state of m, which a fair event steps and reports as its calls do; a memory that is ready stays so, and then
+  -- an event that is lent enough is accepted
+  pub record Lawful (m : Mon) (Reads : Memory → State m → Type 0) (Ready : Memory → Type 0) : Type 0 where
+    pub follows : (e : Event) (mem : Memory) (st : State m) → Reads mem st → Fair k m e mem → Reads (k .run e mem) (stepAll m st (k .calls e mem)) × (k .reports e mem ≡ reportOf m st (k .calls e mem))
+    pub stays : (e : Event) (mem : Memory) → Ready mem → Fair k m e mem → Ready (k .run e mem)
+    pub takes : (e : Event) (mem : Memory) → Ready mem → Lent k m e → k .calls e mem ≡ k .asks e
+
+  calls-append : (mem : Memory) (xs ys : List Event) → callsOf k mem (xs ++ ys) ≡ callsOf k mem xs ++ callsOf k (runAll k mem xs) ys
   unfolding callsOf runAll
   calls-append mem [] ys = refl
-  calls-append mem (e ∷ xs) ys = ap (k .call e mem ∷_) (calls-append (k .run e mem) xs ys)
+  calls-append mem (e ∷ xs) ys =
+      ap (k .calls e mem ++_) (calls-append (k .run e mem) xs ys)
+      ∙ sym (append-assoc (k .calls e mem) (callsOf k (k .run e mem) xs) (callsOf k (runAll k (k .run e mem) xs) ys))
 
-  module _ (m : Mon) (Reads : Memory → State m → Type 0) (Fair : Event → Memory → Type 0) (law : Follows k m Reads Fair) where
-    -- the memory after a part of the events reads as the state after its calls, and what is left is fair
-    follows : (mem : Memory) (st : State m) (xs ys : List Event) → Reads mem st → EachEvent k Fair mem (xs ++ ys) → Reads (runAll k mem xs) (stepAll m st (callsOf k mem xs)) × EachEvent k Fair (runAll k mem xs) ys
-    unfolding callsOf runAll EachEvent stepAll
-    follows mem st [] ys r f = (r, f)
-    follows mem st (e ∷ xs) ys r f = follows (k .run e mem) _ xs ys (law e mem st r (f .0) .0) (f .1)
+  fair-split : (m : Mon) (mem : Memory) (xs ys : List Event) → AllFair k m mem (xs ++ ys) → AllFair k m mem xs × AllFair k m (runAll k mem xs) ys
+  unfolding runAll AllFair
+  fair-split m mem [] ys f = (tt, f)
+  fair-split m mem (e ∷ xs) ys f = let (a, b) = fair-split m (k .run e mem) xs ys (f .1) in ((f .0, a), b)
 
-    module _ (mem : Memory) (r : Reads mem (fresh m)) where
-      reply-is : (xs : List Event) (e : Event) (ys : List Event) → EachEvent k Fair mem (xs ++ e ∷ ys) → k .reply e (runAll k mem xs) ≡ answerOf m (stepAll m (fresh m) (callsOf k mem xs)) (k .call e (runAll k mem xs))
-      unfolding EachEvent
-      reply-is xs e ys f =
-          let (q, g) = follows mem (fresh m) xs (e ∷ ys) r f in
-          law e (runAll k mem xs) _ q (g .0) .1
+  module _ (m : Mon) (Reads : Memory → State m → Type 0) (Ready : Memory → Type 0) (law : Lawful m Reads Ready) where
+    -- the memory after fair events reads as the state after their calls
+    reads-on : (mem : Memory) (st : State m) (xs : List Event) → Reads mem st → AllFair k m mem xs → Reads (runAll k mem xs) (stepAll m st (callsOf k mem xs))
+    unfolding callsOf runAll AllFair stepAll
+    reads-on mem st [] r f = r
+    reads-on mem st (e ∷ xs) r f =
+        subst (Reads (runAll k (k .run e mem) xs)) (sym (stepped-append m st (k .calls e mem) (callsOf k (k .run e mem) xs)))
+        (reads-on (k .run e mem) _ xs (law .follows e mem st r (f .0) .0) (f .1))
 
-      pub tells : (rec : Record) (es : List Event) → EachEvent k Fair mem es → InOrder 0 (callsOf k mem es) → Over rec (callsOf k mem es) → Tells k m Reads rec mem es
-      unfolding callsOf
-      tells rec es f h o = record {
+    ready-on : (mem : Memory) (xs : List Event) → Ready mem → AllFair k m mem xs → Ready (runAll k mem xs)
+    unfolding runAll AllFair
+    ready-on mem [] r f = r
+    ready-on mem (e ∷ xs) r f = ready-on (k .run e mem) xs (law .stays e mem r (f .0)) (f .1)
+
+    module _ (mem : Memory) (r : Reads mem (fresh m)) (rec : Record) where
+      -- one event behind others, its calls in order over the record
+      one-event : (xs : List Event) (e : Event) (ds rest : List Call) → AllFair k m mem xs → Fair k m e (runAll k mem xs) → k .calls e (runAll k mem xs) ≡ ds → InOrder 0 (callsOf k mem xs ++ (ds ++ rest)) → Over rec (callsOf k mem xs ++ (ds ++ rest)) → (s : ℕ) → (k .reports e (runAll k mem xs) ≡ some s) ↔ (AcceptedAt s ds × First (Alarm m rec) s)
+      one-event xs e ds rest f g q h o s =
+          let cs : List Call = callsOf k mem xs in
+          let x : Reads (runAll k mem xs) (stepAll m (fresh m) cs) = reads-on mem (fresh m) xs r f in
+          let y : stepAll m (fresh m) cs ≡ after m rec (steps cs) = stepped-part m rec cs (ds ++ rest) h o in
+          let i : InOrder (steps cs) (ds ++ rest) = subst (λ (j : ℕ). InOrder j (ds ++ rest)) (zero-add (steps cs)) (in-order-split 0 cs (ds ++ rest) h .1) in
+          let o′ : Over rec ((cs ++ ds) ++ rest) = subst (Over rec) (sym (append-assoc cs ds rest)) o in
+          let z = reported m rec (steps cs) ds (in-order-split (steps cs) ds rest i .0) (over-rest rec cs ds (over-part rec (cs ++ ds) rest o′)) s in
+          let v : k .reports e (runAll k mem xs) ≡ reportOf m (after m rec (steps cs)) ds = law .follows e (runAll k mem xs) _ x g .1 ∙ ap (reportOf m (stepAll m (fresh m) cs)) q ∙ ap (λ (st : State m). reportOf m st ds) y in
+          subst (λ (a : Option ℕ). (a ≡ some s) ↔ (AcceptedAt s ds × First (Alarm m rec) s)) (sym v) z
+
+      pub tells : (es : List Event) → AllFair k m mem es → InOrder 0 (callsOf k mem es) → Over rec (callsOf k mem es) → Tells k m Reads rec mem es
+      unfolding callsOf AllFair
+      tells es f h o = record {
         reports = λ xs e ys q.
-            let g : EachEvent k Fair mem (xs ++ e ∷ ys) = subst (EachEvent k Fair mem) q f in
-            let c : callsOf k mem es ≡ callsOf k mem xs ++ k .call e (runAll k mem xs) ∷ callsOf k (k .run e (runAll k mem xs)) ys = ap (callsOf k mem) q ∙ calls-append mem xs (e ∷ ys) in
-            subst (λ (b : Bool). (b ≡ true) ↔ ((s w : ℕ) × (k .call e (runAll k mem xs) ≡ accepted s w) × First (Alarm m rec) s)) (sym (reply-is xs e ys g)) (means m rec (callsOf k mem es) h o .reports _ _ _ c);
+            let (a, b) = fair-split m mem xs (e ∷ ys) (subst (AllFair k m mem) q f) in
+            let c = ap (callsOf k mem) q ∙ calls-append mem xs (e ∷ ys) in
+            one-event xs e (k .calls e (runAll k mem xs)) (callsOf k (k .run e (runAll k mem xs)) ys) a (b .0) refl (subst (InOrder 0) c h) (subst (Over rec) c o);
         after = λ xs ys q.
-            let g : EachEvent k Fair mem (xs ++ ys) = subst (EachEvent k Fair mem) q f in
-            let c : callsOf k mem es ≡ callsOf k mem xs ++ callsOf k (runAll k mem xs) ys = ap (callsOf k mem) q ∙ calls-append mem xs ys in
-            let z = means m rec (callsOf k mem es) h o in
+            let (a, b) = fair-split m mem xs ys (subst (AllFair k m mem) q f) in
+            let c = ap (callsOf k mem) q ∙ calls-append mem xs ys in
+            let y : stepAll m (fresh m) (callsOf k mem xs) ≡ after m rec (steps (callsOf k mem xs)) = stepped-part m rec (callsOf k mem xs) _ (subst (InOrder 0) c h) (subst (Over rec) c o) in
             record {
-              state = stepAll m (fresh m) (callsOf k mem xs);
-              reads = follows mem (fresh m) xs ys r g .0;
-              obligations = z .obligations _ _ c;
-              nodes = z .nodes _ _ c;
+              state = after m rec (steps (callsOf k mem xs));
+              reads = subst (Reads (runAll k mem xs)) y (reads-on mem (fresh m) xs r a);
+              obligations = obligations-sound m rec (steps (callsOf k mem xs));
+              nodes = nodes-sound m rec (steps (callsOf k mem xs));
             };
       }
+
+  -- the demand, of the rule f at place i of its table
+  pub meets : (f : Formula) (i : ℕ) (Reads : Memory → State (ruleNode f i) → Type 0) (Ready : Memory → Type 0) → Lawful (ruleNode f i) Reads Ready → (mem : Memory) → Reads mem (fresh (ruleNode f i)) → Ready mem → ((s w : ℕ) → s < 9223372036854775808 → (e : Event) × Lent k (ruleNode f i) e × (k .asks e ≡ accepted s w ∷ [])) → Demand k f (ruleNode f i) Reads mem
+  meets f i Reads Ready law mem r d l = record {
+    tells = λ es a h. tells (ruleNode f i) Reads Ready law mem r (recordOf (callsOf k mem es)) es a h (λ j z. refl);
+    accepts = takes-on;
+    lends = l;
+    plain = λ p rec. let x = plain-exact p rec i in record {
+      false-at-0 = (λ h. x .complete h, λ (s, a). x .sound s a);
+      at-first = λ s first es a e g h o t.
+          let q = takes-on es a e g in
+          let c : k .asks e ≡ k .asks e ++ [] = sym (append-nil (k .asks e)) in
+          (q, one-event (ruleNode f i) Reads Ready law mem r rec es e (k .asks e) [] a (λ z. g .own) q (subst (λ (ds : List Call). InOrder 0 (callsOf k mem es ++ ds)) c h) (subst (λ (ds : List Call). Over rec (callsOf k mem es ++ ds)) c o) s .1 (t, first));
+    };
+  }
+    where
+      takes-on : (es : List Event) → AllFair k (ruleNode f i) mem es → (e : Event) → Lent k (ruleNode f i) e → k .calls e (runAll k mem es) ≡ k .asks e
+      takes-on es a e g = law .takes e (runAll k mem es) (ready-on (ruleNode f i) Reads Ready law mem es d a) g

@@ -1,8 +1,8 @@
 -- The meaning of a report: the theorems of this crate, each by the laws of the files beside this one.
--- Of alarms, culprits and reports `Alarm`, `Culprit` and `Report` (specs/Alarm, specs/Culprit) speak, of lists of calls `Means` (specs/Meaning).
-use mathlib.Core.Path.{_≡_, refl, sym}
+-- Of alarms, culprits and reports `Alarm`, `Culprit` and `Report` (specs/Alarm, specs/Culprit) speak, of the whole of demand 3 `Demand` (specs/Demand, with `meets` in Machines.antt).
+use mathlib.Core.Path.{_≡_, refl}
 use mathlib.Core.Bool.{true, false, _&&_}
-use mathlib.Core.List.{List, [], append-nil}
+use mathlib.Core.List.{List}
 use mathlib.Core.Logic.{_⊎_, _↔_}
 use Prim.Native.Nat.{ℕ, suc, _+_, _≤_, _<_}
 use lib.IntN.{ℤ, pos}
@@ -19,35 +19,15 @@ use Rattle.meaning.specs.Culprit.{Culprit, Report}
 use Rattle.meaning.specs.State.{DelayedState, ObligationState, State, failed, culprit, fresh, step, newlyFailed, after, WellShaped, EachNode, EachObligation, checkStep, joinedStep, obligationStep, unfailedStep}
 use Rattle.meaning.specs.Logic.{Holds, Fails}
 use Rattle.meaning.specs.Plain.{Plain}
-use Rattle.meaning.specs.Calls.{Call, InOrder, Over, stepAll, recordOf, steps, firstReport}
-use Rattle.meaning.specs.Machine.{Machine, callsOf, EachEvent, Follows, Tells}
-use Rattle.meaning.specs.Meaning.{Sound, NodeSound, Means, Judged, PlainMeans, Ticks, Closes}
+use Rattle.meaning.specs.Calls.{firstReport}
+use Rattle.meaning.specs.Meaning.{Sound, NodeSound, Judged, PlainMeans, Ticks, Closes, Opens}
 use Rattle.meaning.specs.Trips.{trips, kept, allKept}
 use Rattle.meaning.proofs.Steps as steps-of
 use Rattle.meaning.proofs.Culprits as culprits-of
 use Rattle.meaning.proofs.Calls as calls-of
-use Rattle.meaning.proofs.Machines as machines-of
 use Rattle.meaning.proofs.Shapes as shapes-of
 use Rattle.meaning.proofs.Logics.{not-both}
 use Rattle.meaning.proofs.Plains.{plain-faults, plain-exact}
-
--- ---- the whole list of calls: demand 3, first part
-module _ (m : Mon) (calls : List Call) where
-  pub demand-3 : InOrder 0 calls → Means m (recordOf calls) calls
-  demand-3 h = calls-of.means m (recordOf calls) calls h (λ i z. refl)
-
-  -- after the list
-  pub after-list : InOrder 0 calls → EachObligation (Sound (recordOf calls) (steps calls)) m (stepAll m (fresh m) calls)
-  after-list h = demand-3 h .obligations calls [] (sym (append-nil calls))
-
--- ---- the same of anything that keeps a monitor in its memory, over any list of events
-module _ {Memory Event : Type 0} (k : Machine Memory Event) (m : Mon) (Reads : Memory → State m → Type 0) (Fair : Event → Memory → Type 0) where
-  pub machine-tells : Follows k m Reads Fair → (mem : Memory) → Reads mem (fresh m) → (es : List Event) → EachEvent k Fair mem es → InOrder 0 (callsOf k mem es) → Tells k m Reads (recordOf (callsOf k mem es)) mem es
-  machine-tells law mem r es f h = machines-of.tells k m Reads Fair law mem r (recordOf (callsOf k mem es)) es f h (λ i z. refl)
-
-  -- over an endless record whose first words the accepted calls bring
-  pub machine-tells-over : Follows k m Reads Fair → (mem : Memory) → Reads mem (fresh m) → (rec : Record) (es : List Event) → EachEvent k Fair mem es → InOrder 0 (callsOf k mem es) → Over rec (callsOf k mem es) → Tells k m Reads rec mem es
-  machine-tells-over law mem r = machines-of.tells k m Reads Fair law mem r
 
 -- ---- one step over a record
 module _ (m : Mon) (rec : Record) where
@@ -128,7 +108,7 @@ module _ (b : ℕ) (p q : Signal) (r : AnchorRange) (st : ObligationState) (s w 
   pub window-closes : WellShaped (check (obligation b p q r)) st → st .failed ≡ false → st .pending ≡ true → truth q w ≡ true → Closes st (step (check (obligation b p q r)) st s w .state)
   window-closes = shapes-of.window-closes b p q r st s w
 
-  pub window-opens : 1 ≤ b → st .failed ≡ false → st .pending ≡ false → containsOf r s ≡ true → truth p w ≡ true → step (check (obligation b p q r)) st s w .state .culprit ≡ pos s
+  pub window-opens : 1 ≤ b → st .failed ≡ false → st .pending ≡ false → containsOf r s ≡ true → truth p w ≡ true → Opens b s (truth q w) (step (check (obligation b p q r)) st s w .state)
   window-opens = shapes-of.window-opens b p q r st s w
 
 -- bound 0: it fails at the trigger's own step or stays as it is, and names a step only on failing
@@ -153,7 +133,6 @@ plain-rules {f} p i rec =
         λ (s, e). x .sound s (report-is-first m rec s .0 e .here),
       );
       at-first = report-is-first m rec;
-      stepped = calls-of.means m rec;
     }
 
 -- a formula is never both true and false

@@ -13,7 +13,7 @@ use Rattle.monitor.specs.Range.{containsOf}
 use Rattle.monitor.specs.Mon.{Signal, Check, range-check, delayed-check, obligation, Mon, check, And, Or}
 use Rattle.meaning.specs.Alarm.{truth}
 use Rattle.meaning.specs.State.{DelayedState, ObligationState, JoinedState, CheckState, State, failed, culprit, freshObligation, freshCheck, fresh, opened, ticked, atOnce, unless, unfailedStep, obligationStep, offered, least, pickCulprit, Stepped, checkStep, joinedStep, step, newlyFailed, FromMinusOne, WellKept, CheckShaped, WellShaped}
-use Rattle.meaning.specs.Meaning.{Ticks, Closes}
+use Rattle.meaning.specs.Meaning.{Ticks, Closes, Opens}
 use Rattle.meaning.proofs.Truths.{and-true, true-and, true-or-left, true-or-right, false-not}
 use Rattle.meaning.proofs.Windows.{obligation-failed, obligation-open-body, obligation-open-without, obligation-opens, obligation-opens-body, obligation-zero-fails, obligation-zero-body, obligation-zero-idle}
 use Rattle.meaning.proofs.Steps.{step-marks}
@@ -165,10 +165,22 @@ window-closes′ (suc b) s due body o h f p e =
     subst (Closes o) (sym (obligation-open-body b s due body o f p e)) (record { closed = refl; unfailed = f; same-culprit = refl })
 
 -- a window opens at an in-range trigger when none is open and it has not failed
-window-opens′ : (b s : ℕ) (due body y : Bool) (o : ObligationState) → 1 ≤ b → o .failed ≡ false → o .pending ≡ false → due ≡ true → body ≡ y → obligationStep b s due body o .culprit ≡ pos s
-window-opens′ zero s due body y o z f p d e = absurd (omega arith)
-window-opens′ (suc b) s due body true o z f p d e = ap (λ (x : ObligationState). x .culprit) (obligation-opens-body b s due body o f p d e)
-window-opens′ (suc b) s due body false o z f p d e = ap (λ (x : ObligationState). x .culprit) (obligation-opens b s due body o f p d e)
+window-opens′ : (b s : ℕ) (due body : Bool) (o : ObligationState) → 1 ≤ b → o .failed ≡ false → o .pending ≡ false → due ≡ true → Opens b s body (obligationStep b s due body o)
+window-opens′ zero s due body o z f p d = absurd (omega arith)
+window-opens′ (suc b) s due true o z f p d = subst (Opens (suc b) s true) (sym (obligation-opens-body b s due true o f p d refl)) (record {
+  blames = refl;
+  open-still = refl;
+  counts = λ e. true-false refl e;
+  full = λ e. refl;
+  fails = (λ e. true-false e f, λ h. true-false refl (h .0));
+})
+window-opens′ (suc b) s due false o z f p d = subst (Opens (suc b) s false) (sym (obligation-opens b s due false o f p d refl)) (record {
+  blames = refl;
+  open-still = refl;
+  counts = λ e. omega arith;
+  full = λ e. true-false e refl;
+  fails = (λ e. let g = eqb-true (suc b - 1) 0 e in (refl, omega arith), λ h. eq-eqb (suc b - 1) 0 (omega arith));
+})
 
 module _ (b : ℕ) (p q : Signal) (r : AnchorRange) (st : ObligationState) (s w : ℕ) where
   pub window-ticks : WellShaped (check (obligation b p q r)) st → st .failed ≡ false → st .pending ≡ true → truth q w ≡ false → Ticks st (step (check (obligation b p q r)) st s w .state)
@@ -179,9 +191,9 @@ module _ (b : ℕ) (p q : Signal) (r : AnchorRange) (st : ObligationState) (s w 
   unfolding step checkStep WellShaped CheckShaped
   window-closes h f o e = window-closes′ b s _ _ st h f o e
 
-  pub window-opens : 1 ≤ b → st .failed ≡ false → st .pending ≡ false → containsOf r s ≡ true → truth p w ≡ true → step (check (obligation b p q r)) st s w .state .culprit ≡ pos s
+  pub window-opens : 1 ≤ b → st .failed ≡ false → st .pending ≡ false → containsOf r s ≡ true → truth p w ≡ true → Opens b s (truth q w) (step (check (obligation b p q r)) st s w .state)
   unfolding step checkStep
-  window-opens z f o i e = window-opens′ b s _ _ _ st z f o (true-and i e) refl
+  window-opens z f o i e = window-opens′ b s _ _ st z f o (true-and i e)
 
 -- bound 0: it fails at the trigger's own step or stays as it is, and names a step only on failing
 module _ (p q : Signal) (r : AnchorRange) (st : ObligationState) (s w : ℕ) where

@@ -6,5 +6,5 @@ pub mod Logic
 pub mod Plain
 pub mod Calls
 pub mod Meaning
-pub mod Machine
+pub mod Demand
 pub mod Trips

@@ -1,11 +1,11 @@
--- Demand 3, as statements: what a list of step calls from a fresh monitor reports and leaves behind.
+-- What a monitor's state says of the steps so far, and what a plain rule means.
 --     Sound     what an obligation's state says after the first k steps of a record
---     Means     the whole of a list of calls
 --     Judged    many words at once
 --     PlainMeans   a plain rule over an endless record
---     Ticks     what one call without the body leaves of an open window, from any well-shaped state
+--     Ticks, Closes, Opens   what one call leaves of an obligation's window, from any well-shaped state
 use mathlib.Core.Bool.{Bool, true, false}
-use mathlib.Core.List.{List, [], _∷_, _++_}
+use mathlib.Core.Bool as bool
+use mathlib.Core.List.{[]}
 use mathlib.Core.Logic.{_↔_}
 use mathlib.Core.Option.{Option, none, some}
 use mathlib.Core.Path.{_≡_}
@@ -19,7 +19,6 @@ use Rattle.meaning.specs.Alarm.{Record, during, triggers, windowEnd, Mis
 use Rattle.meaning.specs.Culprit.{Culprit, Report}
 use Rattle.meaning.specs.State.{ObligationState, State, failed, culprit, fresh, newlyFailed, after, EachNode, EachObligation}
 use Rattle.meaning.specs.Logic.{Holds, Fails}
-use Rattle.meaning.specs.Calls.{Call, accepted, stepCall, stepAll, answerOf, InOrder, steps, Over}
 
 -- the whole window of max(b, 1) steps from the trigger at t lies among the first k steps, and ran without the body
 abbrev pub RanOut : ℕ → (ℕ → Bool) → (ℕ → Bool) → ℕ → ℕ → Type 0
@@ -38,17 +37,6 @@ pub record NodeSound (rec : Record) (k : ℕ) (m : Mon) (st : State m) : Type 0 
   pub marked : (failed m st ≡ true) ↔ ((s : ℕ) × (s < k) × Alarm m rec s)
   pub named : Culprit m rec k (culprit m st)
 
--- a list of calls whose accepted words are the first words of the record
-pub record Means (m : Mon) (rec : Record) (calls : List Call) : Type 0 where
-  -- a call reports exactly when it is accepted and the alarm holds at its step and at no earlier one
-  pub reports : (before : List Call) (c : Call) (rest : List Call) → calls ≡ before ++ c ∷ rest → (answerOf m (stepAll m (fresh m) before) c ≡ true) ↔ ((s w : ℕ) × (c ≡ accepted s w) × First (Alarm m rec) s)
-  -- the monitor then holds the report's culprit
-  pub culprits : (before : List Call) (c : Call) (rest : List Call) → calls ≡ before ++ c ∷ rest → (s w : ℕ) → c ≡ accepted s w → answerOf m (stepAll m (fresh m) before) c ≡ true → Report m rec s (culprit m (stepCall m (stepAll m (fresh m) before) c))
-  -- after the list, and after each part of it from the start, each obligation's mark and culprit are right
-  pub obligations : (before rest : List Call) → calls ≡ before ++ rest → EachObligation (Sound rec (steps before)) m (stepAll m (fresh m) before)
-  -- and so are those of every node
-  pub nodes : (before rest : List Call) → calls ≡ before ++ rest → EachNode (NodeSound rec (steps before)) m (stepAll m (fresh m) before)
-
 -- what stepping over n words from step s on answers: the report of the record if it falls among these steps, else nothing
 abbrev pub Judged : Mon → Record → ℕ → ℕ → Option (ℕ × ℤ) → Type 0
 Judged m rec s n none = (t : ℕ) → s ≤ t → t < s + n → First (Alarm m rec) t → ⊥
@@ -62,7 +50,6 @@ pub record PlainMeans (f : Formula) (i : ℕ) (rec : Record) : Type 0 where
   pub true-at-0 : Holds f rec 0 ↔ ((s : ℕ) → Alarm (ruleNode f i) rec s → ⊥)
   pub reported : Fails f rec 0 ↔ ((s : ℕ) × (newlyFailed (ruleNode f i) (after (ruleNode f i) rec s) s (rec s) ≡ true))
   pub at-first : (s : ℕ) → (newlyFailed (ruleNode f i) (after (ruleNode f i) rec s) s (rec s) ≡ true) ↔ First (Alarm (ruleNode f i) rec) s
-  pub stepped : (calls : List Call) → InOrder 0 calls → Over rec calls → Means (ruleNode f i) rec calls
 
 -- ---- one call from any well-shaped state
 -- an open window without its body: one is taken from remaining, and at zero it has failed
@@ -77,3 +64,11 @@ pub record Closes (before after : ObligationState) : Type 0 where
   pub closed : after .pending ≡ false
   pub unfailed : after .failed ≡ false
   pub same-culprit : after .culprit ≡ before .culprit
+
+-- a window of bound b that opens at step s, which is also its first step: with its body there it closes, without it one is taken from b
+pub record Opens (b s : ℕ) (body : Bool) (after : ObligationState) : Type 0 where
+  pub blames : after .culprit ≡ pos s
+  pub open-still : after .pending ≡ bool.not body
+  pub counts : body ≡ false → after .remaining + 1 ≡ b
+  pub full : body ≡ true → after .remaining ≡ b
+  pub fails : (after .failed ≡ true) ↔ ((body ≡ false) × (b ≡ 1))

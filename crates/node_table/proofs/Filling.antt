@@ -1,18 +1,17 @@
--- How many of a table's nodes are looked at, and what one more node adds to a column.
+-- How many of a table's nodes may hold a rule, which places are read, and what one more node adds to a column.
 use mathlib.Core.Bool.{Bool, true, false}
-use mathlib.Core.List.{List, [], _∷_, _++_, map, map-append, head-eq-of-cons-eq, tail-eq-of-cons-eq}
+use mathlib.Core.List.{List, [], _∷_, map, head-eq-of-cons-eq, tail-eq-of-cons-eq}
 use mathlib.Core.Path.{_≡_, refl, sym, _∙_, ap, subst}
-use Prim.Native.Nat.{ℕ, zero, suc, _+_, _≤_, _<_}
-use native.Mathlib.Nat.{lt-of-le-of-lt, min-le-right, not-suc-le-zero, le-of-suc-le-suc}
+use Prim.Native.Nat.{ℕ, zero, suc, _+_, _-_, _≤_, _<_}
+use native.Mathlib.Nat.{ne-of-lt, not-suc-le-zero, le-of-suc-le-suc}
 use native.Mathlib.Numerals.{add-one}
 use native.Mathlib.Omega.{arith}
-use borrow.Author.Tests.{lt-ltb, le-ltb, lt-leb, ltb-true, ltb-false}
+use borrow.Author.Tests.{lt-ltb, le-ltb, lt-leb, le-leb, leb-true, ltb-true, ltb-false}
 use lib.Dec.{ltb, leb}
-use lib.ListN.{length, getD, set, take, drop, length-map, length-take}
-use lib.Seq.{take-all, take-length, take-suc, take-suc-set, length-take-le}
-use Rattle.node_table.specs.Node.{opsOf, numsOf}
-use Rattle.node_table.specs.Columns.{within, lesser, Unpacked, Inside, front}
-use Rattle.node_table.specs.declared.Columns.{Columns}
+use lib.ListN.{length, getD, set, take, length-map, List·getD-map}
+use lib.Seq.{length-take-le, getD-set-same, getD-set-other}
+use Rattle.node_table.specs.Node.{blank, nodeOf, opsOf, numsOf}
+use Rattle.node_table.specs.Columns.{within, lesser, endOf, endIf, Holds, front}
 use Rattle.node_table.specs.declared.FormulaNode.{FormulaNode}
 
 pub within-few : (n : ℕ) → n < 1024 → n ≡ within n
@@ -31,44 +30,52 @@ within-all n = cases n (ltb n 1024) refl .0
 pub within-lent : (n : ℕ) → within n ≤ n
 within-lent n = cases n (ltb n 1024) refl .1
 
-module _ {A : Type 0} (l : List A) where
-  takes : (t : Bool) → ltb (length l) 1024 ≡ t → take (lesser t (length l)) l ≡ take 1024 l
-  takes true e = take-length l ∙ sym (take-all 1024 l (omega (arith, ltb-true (length l) 1024 e)))
-  takes false e = refl
+-- ---- the places of a rule that are read
+end-refuses : (first count lent : ℕ) → lent < first + count → first ≡ endOf lent first count
+end-refuses first count lent h = rw (lt-leb (first + count) lent h)
 
-  -- the nodes that are looked at are the first 1,024
-  pub within-takes : take (within (length l)) l ≡ take 1024 l
-  within-takes = takes (ltb (length l) 1024) refl
+pub end-past : (lent first count : ℕ) → lent < first → first ≡ endOf lent first count
+end-past lent first count h = end-refuses first count lent (omega arith)
 
-  pub within-counts : within (length l) ≡ length (take 1024 l)
-  within-counts = sym (length-take-le (within (length l)) l (within-lent (length l))) ∙ ap length within-takes
+pub end-short : (lent first count : ℕ) → first ≤ lent → lent - first < count → first ≡ endOf lent first count
+end-short lent first count h k = end-refuses first count lent (omega arith)
 
--- a column that holds the first i entries of ys and is given the next holds the first i + 1
-pub grows : {A : Type 0} (f : A → ℕ) (ys : List A) (d : A) (xs : List ℕ) (i : ℕ) → i < length ys → i < length xs → take i xs ≡ map f (take i ys)
-    → take (i + 1) (set xs i (f (getD ys i d))) ≡ map f (take (i + 1) ys)
-grows f ys d xs i ly lx e =
-    ap (λ (k : ℕ). take k (set xs i (f (getD ys i d)))) (add-one i)
-    ∙ take-suc-set xs i (f (getD ys i d)) lx
-    ∙ ap (λ (r : List ℕ). r ++ (f (getD ys i d) ∷ [])) e
-    ∙ sym (map-append f (take i ys) (getD ys i d ∷ []))
-    ∙ ap (map f) (sym (take-suc ys i d ly))
-    ∙ ap (λ (k : ℕ). map f (take k ys)) (sym (add-one i))
+pub end-lent : (lent first count : ℕ) → first ≤ lent → count ≤ lent - first → first + count ≡ endOf lent first count
+end-lent lent first count h k = rw (le-leb (first + count) lent (omega arith))
+
+-- a place that is read is lent
+pub end-inside : (lent first count i : ℕ) → first ≤ i → i < endOf lent first count → i < lent
+end-inside lent first count i from h = go (leb (first + count) lent) refl h
+  where
+    go : (t : Bool) → leb (first + count) lent ≡ t → i < endIf t first (first + count) → i < lent
+    go true e k = omega (arith, leb-true (first + count) lent e)
+    go false e k = absurd (omega arith)
+
+-- where all of a rule's places are lent, all are read
+pub end-fits : (lent first count i : ℕ) → first + count ≤ lent → i < first + count → i < endOf lent first count
+end-fits lent first count i h below = rw (le-leb (first + count) lent h) below
+
+-- a column that holds the entries before i and is given the one at i holds one more
+pub holds-next : (f : FormulaNode → ℕ) → f blank ≡ 0 → (ys : List FormulaNode) (xs : List ℕ) (from i : ℕ) → from ≤ i → i < length xs
+    → Holds xs (map f ys) from i → Holds (set xs i (f (nodeOf ys i))) (map f ys) from (i + 1)
+holds-next f z ys xs from i le lx h k above below = go (ltb k i) refl
+  where
+    a : ℕ
+    a = f (nodeOf ys i)
+
+    go : (t : Bool) → ltb k i ≡ t → getD (set xs i a) k 0 ≡ getD (map f ys) k 0
+    go true e = getD-set-other xs i k a 0 (ne-of-lt (ltb-true k i e)) ∙ h k above (ltb-true k i e)
+    go false e =
+        let same : k ≡ i = omega (arith, ltb-false k i e) in
+        ap (λ (j : ℕ). getD (set xs i a) j 0) same
+        ∙ getD-set-same xs i a 0 lx
+        ∙ sym (List·getD-map f ys i blank)
+        ∙ ap (λ (d : ℕ). getD (map f ys) i d) z
+        ∙ ap (λ (j : ℕ). getD (map f ys) j 0) (sym same)
 
 -- a front of n entries has n entries
 pub front-length : (n : ℕ) (l : List ℕ) → n ≤ length l → n ≡ length (take n l)
 front-length n l h = sym (length-take-le n l h)
-
-front-inside : (n : ℕ) (l : List ℕ) → n ≡ length (take n l) → n ≤ length l
-front-inside n l e = subst (λ (k : ℕ). k ≤ length l) (sym (e ∙ length-take n l)) (min-le-right n (length l))
-
-counted : (n : ℕ) (f : FormulaNode → ℕ) (l : List ℕ) (xs : List FormulaNode) → n ≡ length xs → take n l ≡ map f xs → n ≡ length (take n l)
-counted n f l xs e is = e ∙ sym (length-map xs f) ∙ ap length (sym is)
-
-pub unpacked-inside : (table : List FormulaNode) (c : Columns) → Unpacked table c → Inside c
-unpacked-inside table c u = record {
-  ops = front-inside (c .count) (c .ops) (counted (c .count) (λ x. x .op) (c .ops) (take 1024 table) (u .count) (u .ops));
-  nums = front-inside (c .count) (c .nums) (counted (c .count) (λ x. x .num) (c .nums) (take 1024 table) (u .count) (u .nums));
-}
 
 -- ---- columns in front of a table
 map-set : {A : Type 0} (f : A → ℕ) (l : List A) (i : ℕ) (a : A) → map f (set l i a) ≡ set (map f l) i (f a)
@@ -101,10 +108,3 @@ same-table (x ∷ t) (y ∷ u) o n =
     ap (λ (a : ℕ). record { op = a; num = x .num } ∷ t) (head-eq-of-cons-eq o)
     ∙ ap (λ (a : ℕ). record { op = y .op; num = a } ∷ t) (head-eq-of-cons-eq n)
     ∙ ap (λ (r : List FormulaNode). y ∷ r) (same-table t u (tail-eq-of-cons-eq o) (tail-eq-of-cons-eq n))
-
--- ---- a table of less than 1,024 nodes
-looked-at : (table : List FormulaNode) → length (opsOf (take 1024 table)) ≤ length table
-looked-at table = subst (λ (n : ℕ). n ≤ length table) (sym (length-map (take 1024 table) (λ x. x .op) ∙ length-take 1024 table)) (min-le-right 1024 (length table))
-
-pub no-room : (table : List FormulaNode) → length table < 1024 → leb 1024 (length (opsOf (take 1024 table))) ≡ false
-no-room table short = lt-leb 1024 (length (opsOf (take 1024 table))) (lt-of-le-of-lt (looked-at table) short)

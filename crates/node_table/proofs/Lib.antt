@@ -1,3 +1,4 @@
 -- Laws of a formula table's columns.
 pub mod Arrays
 pub mod Filling
+pub mod Own

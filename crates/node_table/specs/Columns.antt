@@ -1,15 +1,16 @@
 -- The columns of a formula table: what reading a table of node structs into plain arrays gives.
---     within     how many of so many nodes are looked at: at most 1,024
---     Unpacked   the columns begin with the operations and the numbers of the first 1,024 nodes
+--     within     how many of so many nodes may hold a rule: at most 1,024
+--     endOf      where the places of a rule that are read end: none are where not all of them are there
+--     Unpacked   the columns are as long as `within` says and hold the nodes of the rule's own places
 --     Inside     the columns are as long as their count says
 --     front      a column's first n entries in front of what stood past them
 --     Packed     the table with the nodes of the columns in front, and every node past them as before
 use mathlib.Core.Bool.{Bool, true, false}
 use mathlib.Core.List.{List, _++_}
 use mathlib.Core.Path.{_≡_}
-use Prim.Native.Nat.{ℕ, _≤_}
-use lib.Dec.{ltb}
-use lib.ListN.{length, take, drop}
+use Prim.Native.Nat.{ℕ, _+_, _≤_, _<_}
+use lib.Dec.{leb, ltb}
+use lib.ListN.{length, getD, take, drop}
 use Rattle.node_table.specs.Node.{opsOf, numsOf}
 use Rattle.node_table.specs.declared.Columns.{Columns}
 use Rattle.node_table.specs.declared.FormulaNode.{FormulaNode}
@@ -21,14 +22,26 @@ lesser false n = 1024
 abbrev pub within : ℕ → ℕ
 within n = lesser (ltb n 1024) n
 
-pub record Unpacked (table : List FormulaNode) (c : Columns) : Type 0 where
-  pub count : c .count ≡ length (take 1024 table)
-  pub ops : take (c .count) (c .ops) ≡ opsOf (take 1024 table)
-  pub nums : take (c .count) (c .nums) ≡ numsOf (take 1024 table)
+abbrev pub endIf : Bool → ℕ → ℕ → ℕ
+endIf true first end = end
+endIf false first end = first
+
+abbrev pub endOf : ℕ → ℕ → ℕ → ℕ
+endOf lent first count = endIf (leb (first + count) lent) first (first + count)
 
 pub record Inside (c : Columns) : Type 0 where
   pub ops : c .count ≤ length (c .ops)
   pub nums : c .count ≤ length (c .nums)
+
+-- a column's entries at the places [from, upto) are those of another list
+abbrev pub Holds : List ℕ → List ℕ → ℕ → ℕ → Type 0
+Holds xs ys from upto = (i : ℕ) → from ≤ i → i < upto → getD xs i 0 ≡ getD ys i 0
+
+pub record Unpacked (table : List FormulaNode) (first count : ℕ) (c : Columns) : Type 0 where
+  pub lent : c .count ≡ within (length table)
+  pub inside : Inside c
+  pub ops : Holds (c .ops) (opsOf table) first (endOf (c .count) first count)
+  pub nums : Holds (c .nums) (numsOf table) first (endOf (c .count) first count)
 
 abbrev pub front : ℕ → List ℕ → List ℕ → List ℕ
 front n xs l = take n xs ++ drop n l

@@ -1,11 +1,11 @@
-// A formula table as a lent slice of node structs: one node read or stored, the first 1,024 nodes read into plain columns, and columns stored in
-// front. The borrow checker covers no function that is lent such a slice, so each is proved by hand. They are the only ones that touch a node:
-// the entry points over such a table (crates `table_calls`, `table_read`, `table_step`) hand plain columns on to the core.
+// A formula table as a lent slice of node structs: `node_at` reads one node and `put_node` stores one, and nothing else touches a node. A rule's own
+// places are read into plain columns, and columns are stored in front of a table. The borrow checker covers no function that is lent such a slice, so
+// each is proved by hand. The entry points over such a table (crates `table_calls`, `table_read`, `table_step`) hand plain columns on to the core.
 ghost use mathlib.Core.Path.{_≡_};
 ghost use Prim.Native.Nat.{_+_, _≤_, _<_};
 ghost use lib.ListN.{length, set};
 ghost use Rattle.node_table.specs.Node.{nodeOf};
-ghost use Rattle.node_table.specs.Columns.{within, Unpacked, Inside, Packed};
+ghost use Rattle.node_table.specs.Columns.{within, endOf, Unpacked, Inside, Packed};
 
 // A node of a formula table: its operation and its number.
 pub struct FormulaNode {
@@ -21,14 +21,7 @@ pub fn node_at(table: &[FormulaNode], i: usize) -> FormulaNode
     table[i]
 }
 
-// How many nodes are lent.
-pub fn node_count(table: &[FormulaNode]) -> usize
-    ensures { λ r. ⌜ r ≡ length (now (table .entry)) ⌝ }
-{
-    table.len()
-}
-
-// A table in two columns: how many nodes there are, and their operations and numbers from the columns' start on.
+// A table in two columns: how many nodes there are, and the operations and numbers of those that were read or are to be stored.
 pub struct Columns {
     pub count: usize,
     pub ops: [u8; 1024],
@@ -53,16 +46,30 @@ fn columns_for(len: usize) -> Columns
     }
 }
 
-// The first 1,024 nodes in columns.
-pub fn unpack(table: &[FormulaNode]) -> Columns
-    ensures { λ r. ⌜ Unpacked (now (table .entry)) r ⌝ }
+// Where the places of a rule of `count` nodes at `first` end, if so many of the `lent` nodes hold them; else `first`, so that there are none.
+fn end_of(lent: usize, first: usize, count: usize) -> usize
+    ensures { λ r. ⌜ r ≡ endOf lent first count ⌝ }
+{
+    if lent < first {
+        return first;
+    }
+    if lent - first < count {
+        return first;
+    }
+    first + count
+}
+
+// The places of the rule of `count` nodes at `first`, in columns.
+pub fn unpack(table: &[FormulaNode], first: usize, count: usize) -> Columns
+    ensures { λ r. ⌜ Unpacked (now (table .entry)) first count r ⌝ }
 {
     let c = columns_for(table.len());
+    let end = end_of(c.count, first, count);
     let mut ops = c.ops;
     let mut nums = c.nums;
-    let mut i = 0;
-    while i < c.count {
-        let x = table[i];
+    let mut i = first;
+    while i < end {
+        let x = node_at(table, i);
         ops[i] = x.op;
         nums[i] = x.num;
         i += 1;
@@ -95,7 +102,7 @@ pub fn pack(table: &mut [FormulaNode], c: Columns)
             op: ops[i],
             num: nums[i],
         };
-        table[i] = x;
+        put_node(table, i, x);
         i += 1;
     }
 }

@@ -2,20 +2,23 @@
 use mathlib.Core.Path.{_≡_, refl, sym, ap, ap₂, subst, _∙_}
 use mathlib.Core.Bool.{Bool, true, false, _&&_}
 use mathlib.Core.List.{List, [], _∷_}
+use mathlib.Core.Option.{Option, none, some}
 use Prim.Native.Nat.{ℕ, _+_, _≤_, _<_}
 use native.Mathlib.Omega.{arith}
-use borrow.Author.Tests.{le-leb, lt-leb}
+use borrow.Author.Tests.{le-leb, lt-leb, leb-true}
 use lib.Dec.{leb}
 use lib.ListN.{length}
 use Rattle.number.specs.Number.{pick}
-use Rattle.book.specs.Book.{Book, Outcome, accepted, refused, read}
-use Rattle.book.specs.Checked.{checkedOf}
+use Rattle.line.specs.Text.{lines}
+use Rattle.line.specs.Line.{parse}
+use Rattle.line.proofs.Parts.{lines-few}
+use Rattle.book.specs.Book.{Book, empty, whole, Fault, word, place, label, number, limit, numberOf, fault, add, unless, readOn, ended, Outcome, accepted, refused, BookResult, contents, refusal, bookResult, read}
+use Rattle.book.specs.Checked as Checking
 use Rattle.book.specs.declared.check.Checked as checked
-use Rattle.book.specs.declared.check.Checked.the-variants.{Good}
 use Rattle.book.specs.declared.check.Checked.the-variants as check
 use Rattle.reader.specs.Tables.{Tables, written, roomy, readInto, after}
 use Rattle.reader.specs.Filled.{Fillable, Filled}
-use Rattle.reader.specs.Answer.{Roomy, Reads, answerOf}
+use Rattle.reader.specs.Answer.{Roomy, Reads, resultOf}
 use Rattle.reader.specs.declared.read.Answer.{Answer}
 use Rattle.reader.specs.declared.read.Answer.the-variants.{Read, Refused}
 
@@ -29,7 +32,7 @@ into-roomy text t r = ap (λ (b : Bool). pick b (read text) (refused 1 0)) (has-
 
 -- ---- a table that is too short
 no-room : (text : List ℕ) (t : Tables) → roomy t ≡ false → Reads text t (Refused 1 0) t
-unfolding readInto after answerOf
+unfolding readInto after
 no-room text t e = record { answer = rw e refl; tables = rw e refl }
 
 false-and : (a b : Bool) → b ≡ false → (a && b) ≡ false
@@ -66,67 +69,102 @@ module _ (text labels lens kinds firsts counts ops nums : List ℕ) where
   short-nums h = no-room text (record { labels = labels; lens = lens; kinds = kinds; firsts = firsts; counts = counts; ops = ops; nums = nums }) (false-and (leb 2048 (length labels)) _ (false-and (leb 64 (length lens)) _ (false-and (leb 64 (length kinds)) _ (false-and (leb 64 (length firsts)) _ (false-and (leb 64 (length counts)) _ (false-and (leb 1024 (length ops)) _ (lt-leb 1024 (length nums) h)))))))
 
 -- ---- by what the check answers
-checked-refused : (o : Outcome) (n k : ℕ) → check.Refused n k ≡ checkedOf o → o ≡ refused n k
-checked-refused (accepted b) n k e = let z : _≡_ {A = ℕ} 0 1 = cc in absurd (omega arith)
-checked-refused (refused m j) n k e = cc
-
-checked-good : (o : Outcome) (r n h : ℕ) → check.Good r n h ≡ checkedOf o → (b : Book) × (o ≡ accepted b) × (Read r n h ≡ answerOf o)
-unfolding answerOf
-checked-good (accepted b) r n h e = (b, refl, go e)
+result-refused : (o : Outcome) (n k : ℕ) → refusal n k ≡ bookResult o → o ≡ refused n k
+result-refused (accepted b) n k e = let z : _≡_ {A = ℕ} 0 1 = cc in absurd (omega arith)
+result-refused (refused m j) n k e = go e
   where
-    go : check.Good r n h ≡ check.Good (length (b .labels)) (length (b .ops)) (b .head) → Read r n h ≡ Read (length (b .labels)) (length (b .ops)) (b .head)
+    go : refusal n k ≡ refusal m j → refused m j ≡ refused n k
     go e = cc
-checked-good (refused m j) r n h e = let z : _≡_ {A = ℕ} 0 1 = cc in absurd (omega arith)
 
-module _ (text : List ℕ) (t : Tables) (room : Roomy t) (c : checked.Checked) (is : c ≡ checkedOf (read text)) where
+-- a book's counts and the place of its steps
+pub record Counted (r n h : ℕ) (b : Book) : Type 0 where
+  pub rules : r ≡ length (b .labels)
+  pub nodes : n ≡ length (b .ops)
+  pub head : h ≡ b .head
+
+result-contents : (o : Outcome) (r n h : ℕ) → contents r n h ≡ bookResult o → (b : Book) × (o ≡ accepted b) × Counted r n h b
+result-contents (accepted b) r n h e = (b, refl, go e)
+  where
+    go : contents r n h ≡ contents (length (b .labels)) (length (b .ops)) (b .head) → Counted r n h b
+    go e = record { rules = cc; nodes = cc; head = cc }
+result-contents (refused m j) r n h e = let z : _≡_ {A = ℕ} 0 1 = cc in absurd (omega arith)
+
+module _ (text : List ℕ) (t : Tables) (room : Roomy t) (c : checked.Checked) (is : Checking.resultOf c ≡ bookResult (read text)) where
   pub read-refused : (n k : ℕ) → c ≡ check.Refused n k → Reads text t (Refused n k) t
-  unfolding after answerOf
+  unfolding after
   read-refused n k e =
-      let o : readInto text t ≡ refused n k = into-roomy text t room ∙ checked-refused (read text) n k (sym e ∙ is) in
+      let o : readInto text t ≡ refused n k = into-roomy text t room ∙ result-refused (read text) n k (sym (ap Checking.resultOf e) ∙ is) in
       record { answer = rw o refl; tables = rw o refl }
 
   pub read-fillable : (r n h : ℕ) → c ≡ check.Good r n h → Fillable text t
   read-fillable r n h e =
-      let (b, o, a) = checked-good (read text) r n h (sym e ∙ is) in
+      let (b, o, a) = result-contents (read text) r n h (sym (ap Checking.resultOf e) ∙ is) in
       record { book = b; is = o; room = has-room t room }
 
   pub read-good : (r n h : ℕ) (t′ : Tables) → c ≡ check.Good r n h → Filled text t t′ → Reads text t (Read r n h) t′
   unfolding after
   read-good r n h t′ e f =
-      let (b, o, a) = checked-good (read text) r n h (sym e ∙ is) in
+      let (b, o, a) = result-contents (read text) r n h (sym (ap Checking.resultOf e) ∙ is) in
       record {
-        answer = a ∙ ap answerOf (sym (into-roomy text t room));
+        answer = sym (ap Checking.resultOf e) ∙ is ∙ ap bookResult (sym (into-roomy text t room));
         tables = f .is b o ∙ ap (λ (x : Outcome). after x t) (sym (into-roomy text t room ∙ o));
       }
 
 -- ---- for callers: what an answer says
 pub read-inv : (text : List ℕ) (t t′ : Tables) (r n h : ℕ) → Reads text t (Read r n h) t′ → (b : Book) × (readInto text t ≡ accepted b) × (t′ ≡ written b t) × (r ≡ length (b .labels)) × (n ≡ length (b .ops)) × (h ≡ b .head)
-unfolding after answerOf
-read-inv text t t′ r n h u = go (readInto text t) (u .answer) (u .tables)
-  where
-    read-rules : {a b c d e f : ℕ} → Read a b c ≡ Read d e f → a ≡ d
-    read-rules p = cc
-
-    read-nodes : {a b c d e f : ℕ} → Read a b c ≡ Read d e f → b ≡ e
-    read-nodes p = cc
-
-    read-head : {a b c d e f : ℕ} → Read a b c ≡ Read d e f → c ≡ f
-    read-head p = cc
-
-    read-refused-not : {B : Type 0} {a b c d e : ℕ} → Read a b c ≡ Refused d e → B
-    read-refused-not p = let z : _≡_ {A = ℕ} 0 1 = cc in absurd (omega arith)
-
-    go : (o : Outcome) → Read r n h ≡ answerOf o → t′ ≡ after o t → (b : Book) × (o ≡ accepted b) × (t′ ≡ written b t) × (r ≡ length (b .labels)) × (n ≡ length (b .ops)) × (h ≡ b .head)
-    go (accepted b) e w = (b, refl, w, read-rules e, read-nodes e, read-head e)
-    go (refused m k) e w = read-refused-not e
+unfolding after
+read-inv text t t′ r n h u =
+    let (b, o, a) = result-contents (readInto text t) r n h (u .answer) in
+    (b, o, u .tables ∙ ap (λ (x : Outcome). after x t) o, a .rules, a .nodes, a .head)
 
 pub refused-inv : (text : List ℕ) (t t′ : Tables) (n k : ℕ) → Reads text t (Refused n k) t′ → (readInto text t ≡ refused n k) × (t′ ≡ t)
-unfolding after answerOf
-refused-inv text t t′ n k u = go (readInto text t) (u .answer) (u .tables)
-  where
-    same : {a b c d : ℕ} → Refused a b ≡ Refused c d → refused c d ≡ refused a b
-    same p = cc
+unfolding after
+refused-inv text t t′ n k u =
+    let o : readInto text t ≡ refused n k = result-refused (readInto text t) n k (u .answer) in
+    (o, u .tables ∙ ap (λ (x : Outcome). after x t) o)
 
-    go : (o : Outcome) → Refused n k ≡ answerOf o → t′ ≡ after o t → (o ≡ refused n k) × (t′ ≡ t)
-    go (accepted b) e w = absurd (let z : _≡_ {A = ℕ} 0 1 = cc in omega arith)
-    go (refused m j) e w = (same e, w)
+-- ---- a refusal's number and line are small
+pub record Small (n k : ℕ) : Type 0 where
+  pub number : n ≤ 10
+  pub line : k ≤ 65535
+
+refused-is : {n k m j : ℕ} → refused n k ≡ refused m j → (n ≡ m) × (k ≡ j)
+refused-is e = (cc, cc)
+
+accepted-not : {A : Type 0} {b : Book} {n k : ℕ} → accepted b ≡ refused n k → A
+accepted-not e = let z : _≡_ {A = ℕ} 0 1 = cc in absurd (omega arith)
+
+fault-low : (f : Fault) → numberOf f ≤ 10
+fault-low word = omega arith
+fault-low place = omega arith
+fault-low label = omega arith
+fault-low number = omega arith
+fault-low limit = omega arith
+
+read-small : (b : Book) (i : ℕ) (ls : List (List ℕ)) (n k : ℕ) → i + length ls ≤ 65535 → readOn b i ls ≡ refused n k → Small n k
+unfolding readOn
+read-small b i [] n k h e = go (whole b) e
+  where
+    go : (t : Bool) → pick t (accepted b) (refused 10 i) ≡ refused n k → Small n k
+    go true e = accepted-not e
+    go false e = let (p, q) = refused-is e in record { number = omega arith; line = omega arith }
+read-small b i (l ∷ ls) n k h e = go (fault b (parse l)) e (read-small (add (length l + 1) b (parse l)) (i + 1) ls n k (omega arith))
+  where
+    go : {o : Outcome} (f : Option Fault) → unless f i o ≡ refused n k → (o ≡ refused n k → Small n k) → Small n k
+    go none e ih = ih e
+    go (some f) e ih = let (p, q) = refused-is e in record { number = omega (arith, fault-low f); line = omega arith }
+
+pub refused-small : (text : List ℕ) (t : Tables) (n k : ℕ) → readInto text t ≡ refused n k → Small n k
+unfolding readInto read
+refused-small text t n k e = go (roomy t) (leb (length text) 65535) refl (ended text) e
+  where
+    low : (m : ℕ) → m ≤ 10 → refused m 0 ≡ refused n k → Small n k
+    low m h e = let (p, q) = refused-is e in record { number = omega arith; line = omega arith }
+
+    go : (a b : Bool) → leb (length text) 65535 ≡ b → (c : Bool)
+        → pick a (pick b (pick c (readOn empty 0 (lines text)) (refused 4 0)) (refused 3 0)) (refused 1 0) ≡ refused n k
+        → Small n k
+    go false b p c e = low 1 (omega arith) e
+    go true false p c e = low 3 (omega arith) e
+    go true true p false e = low 4 (omega arith) e
+    go true true p true e = read-small empty 0 (lines text) n k (omega (arith, leb-true (length text) 65535 p, lines-few text)) e

@@ -1,11 +1,13 @@
--- The cursor over the step lines: one law for each return, and the theorem that an accepted book's steps stand in order where
--- its answer says.
+-- The step line at a place: one law for each return; and the theorem that an accepted book's steps stand in order where its
+-- answer says.
 use mathlib.Core.Path.{_≡_, refl, sym, ap, ap₂, subst, _∙_}
 use mathlib.Core.Bool.{Bool, true, false, _&&_, not}
 use mathlib.Core.List.{List, [], _∷_, _++_, append-assoc}
 use mathlib.Core.Option.{Option, none, some}
 use Prim.Native.Nat.{ℕ, zero, suc, _+_, _-_, _≤_, _<_}
 use native.Mathlib.Omega.{arith}
+use borrow.Author.Tests.{lt-ltb, le-ltb, ltb-true, ltb-false}
+use lib.Dec.{ltb}
 use types.Run.{OneOf, miss}
 use denote.Enum.Declared.{tagOf}
 use lib.ListN.{length, take, drop, length-drop, drop-of-length-le}
@@ -17,45 +19,107 @@ use Rattle.line.specs.Means.{means, LineIs}
 use Rattle.line.specs.declared.line.Line as code
 use Rattle.line.specs.declared.line.Line.the-variants as code-lines
 use Rattle.line.proofs.line.Line as line-type
-use Rattle.line.proofs.Parts.{lines-next, first-inside}
-use Rattle.book.specs.Book.{Book, StepLine, empty, isNil, whole, Fault, sortOf, isLine, stands, labelled, numbered, fault, add, Outcome, accepted, refused, unless, readOn, read}
-use Rattle.reader.specs.Steps.{before, stepsOf, stepsFrom, handed, Hands}
-use Rattle.reader.specs.declared.steps.StepRead.{StepRead}
+use Rattle.line.proofs.Parts.{lines-next, lines-none, first-inside}
+use Rattle.book.specs.Book.{Book, StepLine, empty, isNil, whole, Fault, sortOf, isLine, stands, labelled, numbered, fault, add, Outcome, accepted, refused, unless, readOn, ended, read}
+use Rattle.result.specs.Result.{given}
+use Rattle.reader.specs.Steps.{asStep, Next, nextAt, nextIn, nextStep, resultOf, before, stepsOf, stepsFrom}
 use Rattle.reader.specs.declared.steps.StepRead.the-variants.{Step, End}
+use Rattle.book.proofs.Checks.{ended-drop, ended-found}
 use Rattle.reader.proofs.Sounds.{both, Passed, passed}
-use Rattle.reader.proofs.Runs.{accepted-lines, accepted-inj, unless-none}
+use Rattle.reader.proofs.Runs.{accepted-lines, accepted-ended, accepted-inj, unless-none}
 
--- ---- the cursor
-pub hands-end : (text : List ℕ) (at : ℕ) → length text ≤ at → Hands text at End
-unfolding stepsFrom stepsOf parts
-hands-end text at h = record { is = rw (drop-of-length-le text h) refl; forward = tt }
+-- ---- the step line at a place, from what the code has found
+pub next-past : (text : List ℕ) (at : ℕ) → length text ≤ at → resultOf End ≡ given (nextStep text at)
+unfolding nextStep nextIn firstAt
+next-past text at h = rw (drop-of-length-le text h) refl
 
-module _ (text rest first : List ℕ) (at n : ℕ) (l : code.Line) (h : at < length text) (e : rest ≡ drop at text) (f : Found 10 rest n) (e′ : first ≡ take n rest) (is : LineIs first l) where
-  next-line : lines (drop at text) ≡ first ∷ lines (drop (at + (n + 1)) text)
-  next-line =
-      let long : 1 ≤ length rest = subst (λ (x : List ℕ). 1 ≤ length x) (sym e) (omega (arith, length-drop at text)) in
-      let go : drop (n + 1) rest ≡ drop (at + (n + 1)) text = ap (drop (n + 1)) e ∙ drop-drop (n + 1) at text in
-      ap lines (sym e) ∙ lines-next rest n f long ∙ ap₂ _∷_ (sym e′) (ap lines go)
+module _ (text rest : List ℕ) (at n : ℕ) (e : rest ≡ drop at text) (f : Found 10 rest n) where
+  next-is : nextStep text at ≡ pick (ltb n (length rest)) (nextAt (asStep (parse (take n rest))) (at + (n + 1))) none
+  unfolding nextStep nextIn
+  next-is = ap (λ (r : List ℕ). nextIn r at) (sym e) ∙ ap (λ (i : ℕ). pick (ltb i (length rest)) (nextAt (asStep (parse (take i rest))) (at + (i + 1))) none) (sym (f .is))
 
-  pub hands-step : (s w : ℕ) → l ≡ code-lines.Step s w → Hands text at (Step s w (at + (n + 1)))
-  unfolding stepsFrom stepsOf means
-  hands-step s w q =
-      let z : means first l ≡ step s w = ap (means first) q in
-      let p : parse first ≡ step s w = sym (is .holds) ∙ z in
-      record { is = ap stepsOf next-line ∙ ap (λ (x : Line). before x (stepsOf (lines (drop (at + (n + 1)) text)))) p; forward = omega arith }
+  pub next-unended : length rest ≤ n → resultOf End ≡ given (nextStep text at)
+  next-unended h = sym (ap given (next-is ∙ ap (λ (b : Bool). pick b (nextAt (asStep (parse (take n rest))) (at + (n + 1))) none) (le-ltb n (length rest) h)))
 
-  pub hands-other : OneOf (0 ∷ 1 ∷ 2 ∷ 3 ∷ 4 ∷ 6 ∷ []) (tagOf line-type.the-type l) → Hands text at End
-  unfolding stepsFrom stepsOf means
-  hands-other q = record { is = ap stepsOf next-line ∙ ap (λ (x : Line). before x (stepsOf (lines (drop (at + (n + 1)) text)))) (sym (is .holds)) ∙ go l q; forward = tt }
-    where
-      go : (m : code.Line) → OneOf (0 ∷ 1 ∷ 2 ∷ 3 ∷ 4 ∷ 6 ∷ []) (tagOf line-type.the-type m) → before (means first m) (stepsOf (lines (drop (at + (n + 1)) text))) ≡ []
-      go code-lines.Bad k = refl
-      go (code-lines.Rule a b c) k = refl
-      go code-lines.WrongRule k = refl
-      go (code-lines.Node a b) k = refl
-      go code-lines.WrongNode k = refl
-      go (code-lines.Step a b) k = absurd (miss (0 ∷ 1 ∷ 2 ∷ 3 ∷ 4 ∷ 6 ∷ []) 5 tt k)
-      go code-lines.WrongStep k = refl
+  module _ (first : List ℕ) (l : code.Line) (k : n < length rest) (e′ : first ≡ take n rest) (is : LineIs first l) where
+    next-line : nextStep text at ≡ nextAt (asStep (means first l)) (at + (n + 1))
+    next-line =
+        next-is
+        ∙ ap (λ (b : Bool). pick b (nextAt (asStep (parse (take n rest))) (at + (n + 1))) none) (lt-ltb n (length rest) k)
+        ∙ ap (λ (x : List ℕ). nextAt (asStep (parse x)) (at + (n + 1))) (sym e′)
+        ∙ ap (λ (x : Line). nextAt (asStep x) (at + (n + 1))) (sym (is .holds))
+
+    pub next-step : (s w : ℕ) → l ≡ code-lines.Step s w → resultOf (Step s w (at + (n + 1))) ≡ given (nextStep text at)
+    unfolding means
+    next-step s w q = sym (ap given (next-line ∙ ap (λ (m : code.Line). nextAt (asStep (means first m)) (at + (n + 1))) q))
+
+    pub next-other : OneOf (0 ∷ 1 ∷ 2 ∷ 3 ∷ 4 ∷ 6 ∷ []) (tagOf line-type.the-type l) → resultOf End ≡ given (nextStep text at)
+    unfolding means
+    next-other q = sym (ap given (next-line ∙ ap (λ (x : Option StepLine). nextAt x (at + (n + 1))) (go l q)))
+      where
+        go : (m : code.Line) → OneOf (0 ∷ 1 ∷ 2 ∷ 3 ∷ 4 ∷ 6 ∷ []) (tagOf line-type.the-type m) → asStep (means first m) ≡ none
+        go code-lines.Bad k = refl
+        go (code-lines.Rule a b c) k = refl
+        go code-lines.WrongRule k = refl
+        go (code-lines.Node a b) k = refl
+        go code-lines.WrongNode k = refl
+        go (code-lines.Step a b) k = absurd (miss (0 ∷ 1 ∷ 2 ∷ 3 ∷ 4 ∷ 6 ∷ []) 5 tt k)
+        go code-lines.WrongStep k = refl
+
+-- ---- and the steps from there on
+abbrev pub handed : List ℕ → Option Next → List StepLine
+handed text none = []
+handed text (some x) = x .line ∷ stepsFrom text (x .next)
+
+pub steps-next : (text : List ℕ) (at : ℕ) → stepsFrom text at ≡ handed text (nextStep text at)
+unfolding stepsFrom nextStep nextIn stepsOf
+steps-next text at = go (ltb (firstAt 10 rest) (length rest)) refl
+  where
+    rest : List ℕ
+    rest = drop at text
+
+    found : Found 10 rest (firstAt 10 rest)
+    found = record { is = refl; inside = first-inside 10 rest }
+
+    step-on : (x : Option StepLine) (p : ℕ) (r : List StepLine) → r ≡ stepsFrom text p → before x r ≡ handed text (nextAt x p)
+    step-on none p r e = refl
+    step-on (some y) p r e = ap (y ∷_) e
+
+    go : (b : Bool) → ltb (firstAt 10 rest) (length rest) ≡ b → stepsOf (lines rest) ≡ handed text (pick b (nextAt (asStep (parse (take (firstAt 10 rest) rest))) (at + (firstAt 10 rest + 1))) none)
+    go true q =
+        ap stepsOf (lines-next rest (firstAt 10 rest) found (ltb-true _ _ q))
+        ∙ step-on (asStep (parse (take (firstAt 10 rest) rest))) (at + (firstAt 10 rest + 1)) (stepsOf (lines (drop (firstAt 10 rest + 1) rest)))
+        (ap (λ (y : List ℕ). stepsOf (lines y)) (drop-drop (firstAt 10 rest + 1) at text))
+    go false q = ap stepsOf (lines-none rest (omega (arith, ltb-false (firstAt 10 rest) (length rest) q, first-inside 10 rest)))
+
+-- the next place lies behind the one asked for, and in the text or at its end
+pub record Inside (text : List ℕ) (at : ℕ) (x : Next) : Type 0 where
+  pub forward : at < x .next
+  pub inside : x .next ≤ length text
+
+pub next-inside : (text : List ℕ) (at : ℕ) (x : Next) → nextStep text at ≡ some x → Inside text at x
+unfolding nextStep nextIn
+next-inside text at x e = go (ltb (firstAt 10 rest) (length rest)) refl e
+  where
+    rest : List ℕ
+    rest = drop at text
+
+    some-is : {a b : Next} → some a ≡ some b → a ≡ b
+    some-is p = cc
+
+    none-some : {A : Type 0} {a : Next} → none ≡ some a → A
+    none-some p = let z : _≡_ {A = ℕ} 0 1 = cc in absurd (omega arith)
+
+    here : (o : Option StepLine) (p : ℕ) → nextAt o p ≡ some x → x .next ≡ p
+    here none p e = none-some e
+    here (some y) p e = ap (λ (z : Next). z .next) (sym (some-is e))
+
+    go : (b : Bool) → ltb (firstAt 10 rest) (length rest) ≡ b → pick b (nextAt (asStep (parse (take (firstAt 10 rest) rest))) (at + (firstAt 10 rest + 1))) none ≡ some x → Inside text at x
+    go true q e =
+        let p : x .next ≡ at + (firstAt 10 rest + 1) = here (asStep (parse (take (firstAt 10 rest) rest))) (at + (firstAt 10 rest + 1)) e in
+        let k : firstAt 10 rest < length rest = ltb-true (firstAt 10 rest) (length rest) q in
+        record { forward = omega arith; inside = omega (arith, length-drop at text) }
+    go false q e = none-some e
 
 -- ---- the book's steps
 true-false : {A : Type 0} → true ≡ false → A
@@ -74,7 +138,7 @@ snoc-nil [] a = refl
 snoc-nil (b ∷ r) a = refl
 
 -- the lines behind a step line are step lines
-step-on : (n : ℕ) (b : Book) (l : Line) (r : List StepLine) → Stepping b → Passed b l → Stepping (add n b l) × (add n b l .head ≡ b .head) × (add n b l .steps ++ r ≡ b .steps ++ before l r)
+step-on : (n : ℕ) (b : Book) (l : Line) (r : List StepLine) → Stepping b → Passed b l → Stepping (add n b l) × (add n b l .head ≡ b .head) × (add n b l .steps ++ r ≡ b .steps ++ before (asStep l) r)
 unfolding add stands labelled numbered
 step-on n b bad r s p = true-false (sym (p .line))
 step-on n b (rule l k) r s p = true-false (sym (both {a = whole b} {b = isNil (b .steps)} (p .here) .1) ∙ s .steps)
@@ -105,7 +169,7 @@ later b c k (l ∷ ls) s e =
 
 -- a line before the steps: a step begins them, any other keeps none and goes on
 abbrev Begins : ℕ → Book → Line → Type 0
-Begins n b l = mathlib.Core.Logic._⊎_ ((Stepping (add n b l)) × (add n b l .head ≡ b .head) × ((r : List StepLine) → add n b l .steps ++ r ≡ before l r)) ((add n b l .steps ≡ []) × (add n b l .head ≡ b .head + n))
+Begins n b l = mathlib.Core.Logic._⊎_ ((Stepping (add n b l)) × (add n b l .head ≡ b .head) × ((r : List StepLine) → add n b l .steps ++ r ≡ before (asStep l) r)) ((add n b l .steps ≡ []) × (add n b l .head ≡ b .head + n))
 
 begins : (n : ℕ) (b : Book) (l : Line) → b .steps ≡ [] → Passed b l → Begins n b l
 unfolding add stands labelled numbered
@@ -130,21 +194,21 @@ from-none b c k s e =
     let z : c .head - b .head ≡ 0 = omega arith in
     record { later = omega arith; are = rw z (sym s ∙ ap (λ (x : Book). x .steps) q) }
 
-from : (fuel : ℕ) (b c : Book) (k : ℕ) (t : List ℕ) → length t ≤ fuel → b .steps ≡ [] → readOn b k (lines t) ≡ accepted c → From b c t
+from : (fuel : ℕ) (b c : Book) (k : ℕ) (t : List ℕ) → length t ≤ fuel → ended t ≡ true → b .steps ≡ [] → readOn b k (lines t) ≡ accepted c → From b c t
 unfolding readOn stepsOf parts
-from zero b c k [] h s e = from-none b c k s e
-from zero b c k (x ∷ r) h s e = absurd (omega arith)
-from (suc fuel) b c k [] h s e = from-none b c k s e
-from (suc fuel) b c k (x ∷ r) h s e =
+from zero b c k [] h d s e = from-none b c k s e
+from zero b c k (x ∷ r) h d s e = absurd (omega arith)
+from (suc fuel) b c k [] h d s e = from-none b c k s e
+from (suc fuel) b c k (x ∷ r) h d s e =
     let t : List ℕ = x ∷ r in
     let n : ℕ = firstAt 10 t in
     let found : Found 10 t n = record { is = refl; inside = first-inside 10 t } in
-    let cut : lines t ≡ take n t ∷ lines (drop (n + 1) t) = lines-next t n found (omega arith) in
+    let cut : lines t ≡ take n t ∷ lines (drop (n + 1) t) = lines-next t n found (ended-found t d (omega arith)) in
     let size : length (take n t) ≡ n = length-take-le n t (first-inside 10 t) in
     let whole-line : readOn b k (take n t ∷ lines (drop (n + 1) t)) ≡ accepted c = subst (λ (y : List (List ℕ)). readOn b k y ≡ accepted c) cut e in
     let (o, a) = unless-none (fault b (parse (take n t))) k _ c whole-line in
     go fuel b c k t n s cut size (passed b (parse (take n t)) o) a
-    (λ (d : Book) (q : d .steps ≡ []). from fuel d c (k + 1) (drop (n + 1) t) (omega (arith, length-drop (n + 1) t)) q)
+    (λ (y : Book) (q : y .steps ≡ []). from fuel y c (k + 1) (drop (n + 1) t) (omega (arith, length-drop (n + 1) t)) (ended-drop (n + 1) t d) q)
     (begins (length (take n t) + 1) b (parse (take n t)) s (passed b (parse (take n t)) o))
   where
     go : (fuel : ℕ) (b c : Book) (k : ℕ) (t : List ℕ) (n : ℕ) → b .steps ≡ [] → lines t ≡ take n t ∷ lines (drop (n + 1) t) → length (take n t) ≡ n → Passed b (parse (take n t)) → readOn (add (length (take n t) + 1) b (parse (take n t))) (k + 1) (lines (drop (n + 1) t)) ≡ accepted c → ((d : Book) → d .steps ≡ [] → readOn d (k + 1) (lines (drop (n + 1) t)) ≡ accepted c → From d c (drop (n + 1) t)) → Begins (length (take n t) + 1) b (parse (take n t)) → From b c t
@@ -163,4 +227,4 @@ pub steps-of-book : (text : List ℕ) (b : Book) → read text ≡ accepted b �
 unfolding stepsFrom
 steps-of-book text b e =
     let z : b .head ≡ b .head - 0 = omega arith in
-    ap (λ (i : ℕ). stepsOf (lines (drop i text))) z ∙ from (length text) empty b 0 text (omega arith) refl (accepted-lines text b e) .are
+    ap (λ (i : ℕ). stepsOf (lines (drop i text))) z ∙ from (length text) empty b 0 text (omega arith) (accepted-ended text b e) refl (accepted-lines text b e) .are

@@ -84,6 +84,16 @@ accepted-lines text b e = go (leb (length text) 65535) (ended text) e
     go false true e = accepted-refused e
     go false false e = accepted-refused e
 
+pub accepted-ended : (text : List ℕ) (b : Book) → read text ≡ accepted b → ended text ≡ true
+unfolding read
+accepted-ended text b e = go (leb (length text) 65535) (ended text) refl e
+  where
+    go : (p q : Bool) → ended text ≡ q → pick p (pick q (readOn empty 0 (lines text)) (refused 4 0)) (refused 3 0) ≡ accepted b → ended text ≡ true
+    go true true h e = h
+    go true false h e = accepted-refused e
+    go false true h e = h
+    go false false h e = accepted-refused e
+
 pub accepted-short : (text : List ℕ) (b : Book) → read text ≡ accepted b → length text ≤ 65535
 unfolding read
 accepted-short text b e = go (leb (length text) 65535) refl e
@@ -234,7 +244,7 @@ module _ (text : List ℕ) (t₀ t : Tables) (f : Tally) (at : ℕ) (v : FillRun
 
   module _ (rest first : List ℕ) (n : ℕ) (h : at < length text) (e : rest ≡ drop at text) (g : Found 10 rest n) (e′ : first ≡ take n rest) where
     pub fill-on : unless (fault (v .book) (parse first)) (v .line) (readOn (add (n + 1) (v .book) (parse first)) (v .line + 1) (lines (drop (at + (n + 1)) text))) ≡ accepted (v .ready .book)
-    fill-on = sym (v .same ∙ read-line (v .book) (v .line) text rest first at n h e g e′) ∙ accepted-lines text (v .ready .book) (v .ready .is)
+    fill-on = sym (v .same ∙ read-line (v .book) (v .line) text rest first at n (accepted-ended text (v .ready .book) (v .ready .is)) h e g e′) ∙ accepted-lines text (v .ready .book) (v .ready .is)
 
     no-fault : fault (v .book) (parse first) ≡ none
     no-fault = unless-none _ _ _ _ fill-on .0
@@ -254,7 +264,7 @@ module _ (text : List ℕ) (t₀ t : Tables) (f : Tally) (at : ℕ) (v : FillRun
           tallied = y;
           ready = v .ready;
           near = omega (arith, short);
-          same = v .same ∙ read-line (v .book) (v .line) text rest first at n h e g e′ ∙ ap (λ (o : Option Fault). unless o (v .line) (readOn (add (n + 1) (v .book) (parse first)) (v .line + 1) (lines (drop (at + (n + 1)) text)))) no-fault;
+          same = v .same ∙ read-line (v .book) (v .line) text rest first at n (accepted-ended text (v .ready .book) (v .ready .is)) h e g e′ ∙ ap (λ (o : Option Fault). unless o (v .line) (readOn (add (n + 1) (v .book) (parse first)) (v .line + 1) (lines (drop (at + (n + 1)) text)))) no-fault;
         }
 
   kept-long : (pick-out : Tables → List ℕ) → length (pick-out (written (v .book) t₀)) ≡ length (pick-out t₀) → length (pick-out t) ≡ length (pick-out t₀)

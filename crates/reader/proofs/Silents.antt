@@ -2,7 +2,7 @@
 use mathlib.Core.Path.{_≡_, refl, sym, ap, subst, _∙_}
 use mathlib.Core.Bool.{Bool, true, false}
 use mathlib.Core.List.{List, [], _∷_}
-use Prim.Native.Nat.{ℕ, _^_, _<_}
+use Prim.Native.Nat.{ℕ, _^_, _≤_, _<_}
 use native.Mathlib.Omega.{arith}
 use lib.Dec.{eqb, ltb}
 use borrow.Author.Tests.{eqb-true}
@@ -56,16 +56,27 @@ silent-fields Rule fs h = absurd h
 silent-fields Step fs h = silent-pick (eqb (length fs) (fieldCount Step)) (stepLine (decimalOf (getD fs 1 [])) (hexOf (getD fs 2 []))) (silent-step (decimalOf (getD fs 1 [])) (hexOf (getD fs 2 [])))
 silent-fields Unknown fs h = silent-pick (eqb (length fs) (fieldCount Unknown)) bad tt
 
-first-onto : (b : ℕ) (l : List (List ℕ)) → getD (onto b l) 0 [] ≡ b ∷ getD l 0 []
+-- a byte in front of a field that is there
+first-onto : (b : ℕ) (l : List (List ℕ)) → 1 ≤ length l → getD (onto b l) 0 [] ≡ b ∷ getD l 0 []
 unfolding onto
-first-onto b [] = refl
-first-onto b (x ∷ l) = refl
+first-onto b [] h = absurd (omega arith)
+first-onto b (x ∷ l) h = refl
+
+some-field : (l : List ℕ) → 1 ≤ length (fields l)
+unfolding parts onto
+some-field [] = omega arith
+some-field (b ∷ r) = go (eqb b 9) (fields r) (some-field r)
+  where
+    go : (t : Bool) (fs : List (List ℕ)) → 1 ≤ length fs → 1 ≤ length (pick t ([] ∷ fs) (onto b fs))
+    go true fs h = omega arith
+    go false [] h = h
+    go false (f ∷ fs) h = omega arith
 
 silent-line : (r : List ℕ) → Silent (parse (115 ∷ r))
 unfolding parse parts
 silent-line r =
     silent-fields (wordOf (getD (fields (115 ∷ r)) 0 [])) (fields (115 ∷ r))
-    (subst (λ (x : List ℕ). SilentWord (wordOf x)) (sym (first-onto 115 (fields r))) (silent-word (getD (fields r) 0 [])))
+    (subst (λ (x : List ℕ). SilentWord (wordOf x)) (sym (first-onto 115 (fields r) (some-field r))) (silent-word (getD (fields r) 0 [])))
 
 pub told-empty : (line : List ℕ) → Told line false
 told-empty line = record { is = λ e. let z : _≡_ {A = ℕ} 0 1 = cc in absurd (omega arith) }

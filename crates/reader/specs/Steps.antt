@@ -1,42 +1,61 @@
--- The steps that stand in a text from a place on, and what the cursor over them hands out.
--- `steps-of-book` (proofs/StepsOfBook.antt): from where an accepted book's step lines begin, they are the book's steps in order.
-use mathlib.Core.Path.{_≡_}
+-- The step lines of a text from a place on, one by one and all together.
+--     nextStep     the step line at a place with the place behind it: what `next_step` answers
+--     stepsFrom    the steps from a place on, up to the first line that is none
+-- The laws between them and with a book are in proofs/StepsOfBook.antt.
 use mathlib.Core.List.{List, [], _∷_}
-use Prim.Native.Nat.{ℕ, _<_}
-use lib.ListN.{drop}
-use Rattle.line.specs.Text.{lines}
+use mathlib.Core.Option.{Option, none, some}
+use Prim.Native.Nat.{ℕ, _+_}
+use lib.Dec.{ltb}
+use lib.ListN.{length, take, drop}
+use Rattle.number.specs.Number.{pick}
+use Rattle.result.specs.Result.{Result, given}
+use Rattle.line.specs.Text.{lines, firstAt}
 use Rattle.line.specs.Line.{Line, bad, rule, wrong-rule, node, wrong-node, step, wrong-step, parse}
 use Rattle.book.specs.Book.{StepLine}
 use Rattle.reader.specs.declared.steps.StepRead.{StepRead}
 use Rattle.reader.specs.declared.steps.StepRead.the-variants.{Step, End}
 
--- a step line goes on, any other line ends the steps
-abbrev pub before : Line → List StepLine → List StepLine
-before bad r = []
-before (rule l k) r = []
-before wrong-rule r = []
-before (node op v) r = []
-before wrong-node r = []
-before (step s w) r = record { number = s; truths = w } ∷ r
-before wrong-step r = []
+-- the step that a line is, if it is one
+abbrev pub asStep : Line → Option StepLine
+asStep bad = none
+asStep (rule l k) = none
+asStep wrong-rule = none
+asStep (node op v) = none
+asStep wrong-node = none
+asStep (step s w) = some (record { number = s; truths = w })
+asStep wrong-step = none
+
+-- ---- one step line
+pub record Next : Type 0 where
+  pub line : StepLine
+  pub next : ℕ
+
+abbrev pub nextAt : Option StepLine → ℕ → Option Next
+nextAt none p = none
+nextAt (some x) p = some (record { line = x; next = p })
+
+-- the bytes from a place on begin with a line, up to their first LF, that is a step; the next place is just behind that LF
+unfoldable pub nextIn : List ℕ → ℕ → Option Next
+nextIn rest at =
+    let n : ℕ = firstAt 10 rest in
+    pick (ltb n (length rest)) (nextAt (asStep (parse (take n rest))) (at + (n + 1))) none
+
+unfoldable pub nextStep : List ℕ → ℕ → Option Next
+nextStep text at = nextIn (drop at text) at
+
+-- document 01's result for each case of the answer: never a refusal
+abbrev pub resultOf : StepRead → Result (Option Next)
+resultOf (Step s w next) = given (some (record { line = record { number = s; truths = w }; next = next }))
+resultOf End = given none
+
+-- ---- all step lines
+abbrev pub before : Option StepLine → List StepLine → List StepLine
+before none r = []
+before (some x) r = x ∷ r
 
 unfoldable pub stepsOf : List (List ℕ) → List StepLine
 stepsOf [] = []
-stepsOf (l ∷ ls) = before (parse l) (stepsOf ls)
+stepsOf (l ∷ ls) = before (asStep (parse l)) (stepsOf ls)
 
 unfoldable pub stepsFrom : List ℕ → ℕ → List StepLine
 stepsFrom text at = stepsOf (lines (drop at text))
-
--- what an answer hands out, and what follows it
-abbrev pub handed : List ℕ → StepRead → List StepLine
-handed text End = []
-handed text (Step s w next) = record { number = s; truths = w } ∷ stepsFrom text next
-
--- the cursor goes forward
-abbrev pub Forward : ℕ → StepRead → Type 0
-Forward at End = Unit
-Forward at (Step s w next) = at < next
-
-pub record Hands (text : List ℕ) (at : ℕ) (r : StepRead) : Type 0 where
-  pub is : stepsFrom text at ≡ handed text r
-  pub forward : Forward at r

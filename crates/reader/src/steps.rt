@@ -4,7 +4,9 @@ use line::line::read_line;
 use line::text::find;
 use line::text::past;
 use line::text::upto;
-ghost use Rattle.reader.specs.Steps.{Hands};
+ghost use mathlib.Core.Path.{_≡_};
+ghost use Rattle.result.specs.Result.{given};
+ghost use Rattle.reader.specs.Steps.{resultOf, nextStep};
 
 // A step and the place behind its line, or the end.
 pub enum StepRead {
@@ -12,15 +14,18 @@ pub enum StepRead {
     End,
 }
 
-// The step line at a place.
+// The step line at a place. A last line without LF is no line.
 pub fn next_step(text: &[u8], at: usize) -> StepRead
-    ensures { λ r. ⌜ Hands (now (text .entry)) at r ⌝ }
+    ensures { λ r. ⌜ resultOf r ≡ given (nextStep (now (text .entry)) at) ⌝ }
 {
     if text.len() <= at {
         return StepRead::End;
     }
     let rest = past(text, at);
     let n = find(rest, 10);
+    if rest.len() <= n {
+        return StepRead::End;
+    }
     let l = read_line(upto(rest, n));
     match l {
         Line::Step { step, truths } => StepRead::Step {

@@ -1,88 +1,96 @@
--- Demand 3, for the code's calls.
---     demand-three          any list of step calls on a fresh monitor, refused ones anywhere and over any tables, the accepted ones over the
---                           rule's own table at 0, 1, 2 and on: `Tells` (crates/meaning, specs/Machine.antt) has each part of the demand
---     demand-three-compiled the same from the compiler's own answer on: its own table is what compiling left
---     demand-three-plain    a plain rule over any endless record: false at its step 0 exactly when the alarm ever holds, and the calls
---                           report over that record
--- A call at 2^63 or later is refused by 24, so the accepted ones are below it.
-use mathlib.Core.List.{List, []}
-use mathlib.Core.Option.{some}
-use mathlib.Core.Path.{_≡_, ap, sym, _∙_}
-use mathlib.Core.Bool.{true}
-use Prim.Native.Nat.{ℕ, _+_, _≤_}
+-- Demand 3, for the calls on slices: `DemandThree` (specs/Calls.antt), from the answers of `compile_formula` and `fresh` on.
+use mathlib.Core.Bool.{Bool, true, false, _&&_}
+use mathlib.Core.List.{List, [], _∷_}
+use mathlib.Core.Option.{Option, none, some}
+use mathlib.Core.Path.{_≡_, refl, sym, ap, ap₂, subst, _∙_}
+use Prim.Native.Nat.{ℕ, _<_}
 use native.Mathlib.Omega.{arith}
+use Rattle.result.specs.Result.{Result, given, refused}
 use Rattle.formula.specs.Formula.{Formula}
-use Rattle.monitor.specs.Mon.{Mon, count}
-use Rattle.monitor.specs.Compile.{ruleNode}
-use Rattle.compiler.specs.declared.Compiled.the-variants.{Nodes}
-use Rattle.compiler.specs.Compiled.{Call, compileCall}
+use Rattle.formula.specs.Table.{ruleOf, roomy}
+use Rattle.formula.proofs.Walks.{both-true}
+use lib.Dec.{leb}
+use lib.ListN.{length}
+use lib.Seq.{length-sets}
+use Rattle.formula.proofs.Trees.{some-inj}
+use Rattle.monitor.specs.Mon.{Mon, rows}
+use Rattle.monitor.specs.Compile.{ruleFaults, ruleNode}
+use Rattle.compiler.specs.Compiled.{firstOr, compileFormula, compileCall}
+use Rattle.compiler.specs.Compiled as compiling
 use Rattle.compiled.proofs.ReadsBack.{Reads, compiled-reads}
-use Rattle.meaning.specs.Alarm.{Record}
-use Rattle.meaning.specs.Calls.{InOrder, Over, recordOf}
-use Rattle.meaning.specs.Machine.{Machine, EachEvent, callsOf, Tells}
-use Rattle.meaning.specs.Meaning.{PlainMeans}
-use Rattle.meaning.specs.Plain.{Plain}
-use Rattle.meaning.proofs.Meaning.{machine-tells, machine-tells-over, plain-rules}
-use Rattle.stepping.specs.Memory.{Memory}
-use Rattle.stepping.specs.Call.{Tables, Monitor, isLent, ruleMon, Known}
-use Rattle.stepping.specs.Fresh.{freshOf, cleared}
-use Rattle.stepping.proofs.Calling.{known-comparable}
-use Rattle.stepping.proofs.Standings.{stood}
-use Rattle.reports.specs.Calls.{StepCall, machine, OwnTable, ReadsAs}
-use Rattle.reports.proofs.Following.{follows, fresh-reads}
+use Rattle.meaning.specs.Calls.{accepted, Below}
+use Rattle.meaning.specs.Demand.{Lent, Demand}
+use Rattle.meaning.specs.State.{fresh}
+use Rattle.meaning.proofs.Machines.{meets}
+use Rattle.node_step.specs.Memory.{Memory}
+use Rattle.lent.specs.Lent.{Tables, Monitor, lentOf, tableRoom, monitorRoom, ruleMon, HoldsRule, Ready}
+use Rattle.lent.proofs.Standings.{lent-parts}
+use Rattle.stepping.specs.Walk.{readMon}
+use Rattle.stepping.specs.Fresh.{Making, freshOf, orShort, makeMon, making}
+use Rattle.stepping.proofs.Starting.{fresh-state, fresh-ready}
+use Rattle.reports.specs.Calls.{Event, step-call, onSlices, ReadsAs, compiledTables, madeMonitor, DemandThree}
+use Rattle.reports.proofs.Following.{lawful}
 
-module _ (t : Tables) (k₀ : Monitor) (m : Mon) (own : ruleMon t ≡ some m) (lent : isLent t k₀ ≡ true) where
-  -- the monitor that `fresh` makes
-  abbrev pub start : Monitor
-  start = freshOf t k₀
+-- ---- what `fresh` made
+pub record MadeOf (t : Tables) (forms bounds : List ℕ) (mem : Memory) (n : ℕ) (m : Mon) : Type 0 where
+  pub counted : n ≡ t .ncount
+  pub holds : HoldsRule t m
+  pub room : monitorRoom forms bounds mem ≡ true
+  pub is : madeMonitor n (making t forms bounds mem) ≡ freshOf t (record { size = 0; forms = forms; bounds = bounds; memory = mem })
 
-  abbrev pub code : Machine Memory StepCall
-  code = machine (start .size) (start .forms) (start .bounds)
+given-inj : {a b : ℕ} → _≡_ {A = Result ℕ} (given a) (given b) → a ≡ b
+given-inj e = cc
 
-  -- it reads as the fresh state
-  pub starts : ReadsAs m (start .memory) (Rattle.meaning.specs.State.fresh m)
-  starts =
-      let d : Known t k₀ = record { mon = m; is = own; lent = lent } in
-      let o = stood (t .ops) (t .nums) (t .first) (t .count) (t .nodes) (t .nfirst) (t .ncount) m own in
-      fresh-reads (k₀ .memory) (t .ncount) (known-comparable t k₀ d .inside) m 0 (omega (arith, o .counted))
+not-given : {B : Type 0} {n k : ℕ} → _≡_ {A = Result ℕ} (refused k) (given n) → B
+not-given e = let z : _≡_ {A = ℕ} 0 1 = cc in absurd (omega arith)
 
-  pub demand-three : (es : List StepCall) → EachEvent code (OwnTable (start .size) (start .forms) (start .bounds) m) (start .memory) es → InOrder 0 (callsOf code (start .memory) es) → Tells code m (ReadsAs m) (recordOf (callsOf code (start .memory) es)) (start .memory) es
-  demand-three es f h = machine-tells code m (ReadsAs m) (OwnTable (start .size) (start .forms) (start .bounds) m) (follows (start .size) (start .forms) (start .bounds) m) (start .memory) starts es f h
+module _ (t : Tables) (forms bounds : List ℕ) (mem : Memory) (n : ℕ) (m : Mon) (own : ruleMon t ≡ some m) where
+  made-by : (b : Bool) → lentOf (t .ops) (t .nums) (t .nodes) forms bounds mem ≡ b → (c : Making) → c ≡ orShort b forms bounds mem (makeMon (some m) t forms bounds mem) → c .answer ≡ given n → (n ≡ t .ncount) × HoldsRule t m × (monitorRoom forms bounds mem ≡ true) × (madeMonitor n c ≡ freshOf t (record { size = 0; forms = forms; bounds = bounds; memory = mem }))
+  made-by false l c e q = not-given (sym (ap (λ (x : Making). x .answer) e) ∙ q)
+  made-by true l c e q =
+      let z : n ≡ t .ncount = given-inj (sym q ∙ ap (λ (x : Making). x .answer) e) in
+      let (x, y) = lent-parts t (record { size = 0; forms = forms; bounds = bounds; memory = mem }) l in
+      (z, record { rule = own; room = x }, y, ap₂ madeMonitor z e)
 
-  pub over-record : (rec : Record) (es : List StepCall) → EachEvent code (OwnTable (start .size) (start .forms) (start .bounds) m) (start .memory) es → InOrder 0 (callsOf code (start .memory) es) → Over rec (callsOf code (start .memory) es) → Tells code m (ReadsAs m) rec (start .memory) es
-  over-record rec es f h o = machine-tells-over code m (ReadsAs m) (OwnTable (start .size) (start .forms) (start .bounds) m) (follows (start .size) (start .forms) (start .bounds) m) (start .memory) starts rec es f h o
+  pub made-of : making t forms bounds mem .answer ≡ given n → MadeOf t forms bounds mem n m
+  unfolding making
+  made-of q =
+      let (a, b, c, d) = made-by (lentOf (t .ops) (t .nums) (t .nodes) forms bounds mem) refl (making t forms bounds mem) (ap (λ (o : Option Mon). orShort (lentOf (t .ops) (t .nums) (t .nodes) forms bounds mem) forms bounds mem (makeMon o t forms bounds mem)) own) q in
+      record { counted = a; holds = b; room = c; is = d }
 
--- a plain rule f at place i of its table
-pub record PlainTells (f : Formula) (i : ℕ) (t : Tables) (k₀ : Monitor) (own : ruleMon t ≡ some (ruleNode f i)) (lent : isLent t k₀ ≡ true) (rec : Record) : Type 0 where
-  pub means : PlainMeans f i rec
-  pub calls : (es : List StepCall) → EachEvent (code t k₀ (ruleNode f i) own lent) (OwnTable (freshOf t k₀ .size) (freshOf t k₀ .forms) (freshOf t k₀ .bounds) (ruleNode f i)) (freshOf t k₀ .memory) es → InOrder 0 (callsOf (code t k₀ (ruleNode f i) own lent) (freshOf t k₀ .memory) es) → Over rec (callsOf (code t k₀ (ruleNode f i) own lent) (freshOf t k₀ .memory) es) → Tells (code t k₀ (ruleNode f i) own lent) (ruleNode f i) (ReadsAs (ruleNode f i)) rec (freshOf t k₀ .memory) es
+-- ---- the tables that compiling left have room
+same-length : (o : Option Formula) (first : ℕ) (out : List ℕ) → length (compileFormula o first out .out) ≡ length out
+same-length none first out = refl
+same-length (some f) first out = go (ruleFaults f)
+  where
+    go : (fs : List ℕ) → length (firstOr fs (ruleNode f first) out .out) ≡ length out
+    go [] = length-sets out 0 (rows (ruleNode f first))
+    go (n ∷ ns) = refl
 
-pub demand-three-plain : {f : Formula} → Plain f → (i : ℕ) (t : Tables) (k₀ : Monitor) (own : ruleMon t ≡ some (ruleNode f i)) (lent : isLent t k₀ ≡ true) (rec : Record) → PlainTells f i t k₀ own lent rec
-demand-three-plain {f} p i t k₀ own lent rec = record {
-  means = plain-rules p i rec;
-  calls = λ es g h o. over-record t k₀ (ruleNode f i) own lent rec es g h o;
-}
+pub compiled-room : (ops nums : List ℕ) (first count : ℕ) (out : List ℕ) (n : ℕ) → compileCall ops nums first count out .answer ≡ given n → tableRoom ops nums (compileCall ops nums first count out .out) ≡ true
+unfolding compileCall
+compiled-room ops nums first count out n compiles = go (roomy ops nums && leb 1792 (length out)) refl compiles
+  where
+    go : (b : Bool) → (roomy ops nums && leb 1792 (length out)) ≡ b → compiling.orShort b out (compileFormula (ruleOf ops nums first count) first out) .answer ≡ given n → tableRoom ops nums (compiling.orShort b out (compileFormula (ruleOf ops nums first count) first out) .out) ≡ true
+    go true w q =
+        let (x, y) = both-true (roomy ops nums) (leb 1792 (length out)) w in
+        ap₂ _&&_ (ap (leb 1792) (same-length (ruleOf ops nums first count) first out) ∙ y) x
+    go false w q = not-given q
 
--- ---- from a compiled rule on: its own table is what compiling left
-abbrev pub tablesOf : List ℕ → List ℕ → ℕ → ℕ → List ℕ → ℕ → Tables
-tablesOf ops nums first count′ nodes n = record { ops = ops; nums = nums; first = first; count = count′; nodes = nodes; nfirst = 0; ncount = n }
+-- ---- the calls of the rule's own tables
+own-call : (t : Tables) (m : Mon) → HoldsRule t m → (s w : ℕ) → s < 9223372036854775808 → (e : Event) × Lent onSlices m e × (onSlices .asks e ≡ accepted s w ∷ [])
+unfolding Below
+own-call t m a s w h = (step-call t s w, record { own = a .rule; roomy = a .room; below = (h, tt) }, refl)
 
-module _ (ops nums : List ℕ) (first count′ : ℕ) (out : List ℕ) (n : ℕ) (compiles : compileCall ops nums first count′ out .answer ≡ Nodes n) where
-  -- the tables after the call, and the compiled rule that they hold
-  abbrev pub compiledTables : Tables
-  compiledTables = tablesOf ops nums first count′ (compileCall ops nums first count′ out .out) n
-
-  reads : Reads ops nums first count′ (compileCall ops nums first count′ out .out) n
-  reads = compiled-reads ops nums first count′ out n compiles
-
-  abbrev pub rule : Formula
-  rule = compiled-reads ops nums first count′ out n compiles .formula
-
-  pub own-table : ruleMon compiledTables ≡ some (ruleNode rule first)
-  own-table = compiled-reads ops nums first count′ out n compiles .reads
-
-  pub demand-three-compiled : (k₀ : Monitor) (lent : isLent compiledTables k₀ ≡ true) (es : List StepCall) → EachEvent (code compiledTables k₀ (ruleNode rule first) own-table lent) (OwnTable (freshOf compiledTables k₀ .size) (freshOf compiledTables k₀ .forms) (freshOf compiledTables k₀ .bounds) (ruleNode rule first)) (freshOf compiledTables k₀ .memory) es → InOrder 0 (callsOf (code compiledTables k₀ (ruleNode rule first) own-table lent) (freshOf compiledTables k₀ .memory) es) → Tells (code compiledTables k₀ (ruleNode rule first) own-table lent) (ruleNode rule first) (ReadsAs (ruleNode rule first)) (recordOf (callsOf (code compiledTables k₀ (ruleNode rule first) own-table lent) (freshOf compiledTables k₀ .memory) es)) (freshOf compiledTables k₀ .memory) es
-  demand-three-compiled k₀ lent es f h = demand-three compiledTables k₀ (ruleNode rule first) own-table lent es f h
-
-  pub demand-three-compiled-plain : Plain rule → (k₀ : Monitor) (lent : isLent compiledTables k₀ ≡ true) (rec : Record) → PlainTells rule first compiledTables k₀ own-table lent rec
-  demand-three-compiled-plain p k₀ lent rec = demand-three-plain p first compiledTables k₀ own-table lent rec
+pub demand-three : DemandThree
+demand-three ops nums first count f is-f out n compiles forms bounds mem made =
+    let t : Tables = compiledTables ops nums first count out n in
+    let c = compiled-reads ops nums first count out n compiles in
+    let same : c .formula ≡ f = some-inj (sym (c .rule) ∙ is-f) in
+    let own : ruleMon t ≡ some (ruleNode f first) = c .reads ∙ ap (λ (g : Formula). some (ruleNode g first)) same in
+    let x = made-of t forms bounds mem n (ruleNode f first) own made in
+    let k₀ : Monitor = record { size = 0; forms = forms; bounds = bounds; memory = mem } in
+    meets onSlices f first (ReadsAs (ruleNode f first)) (λ k. Ready k (ruleNode f first)) (lawful (ruleNode f first)) (madeMonitor n (making t forms bounds mem))
+    (ap (λ (k : Monitor). readMon (ruleNode f first) (k .memory) 0) (x .is) ∙ fresh-state t k₀ (ruleNode f first) (x .holds) (x .room))
+    (subst (λ (k : Monitor). Ready k (ruleNode f first)) (sym (x .is)) (fresh-ready t k₀ (ruleNode f first) (x .holds) (x .room)))
+    (own-call t (ruleNode f first) (x .holds))

@@ -1,119 +1,175 @@
--- One call follows one step of the tree's state, and a fresh monitor reads as the fresh state.
+-- The laws of single calls: a call of `step` or `run` follows the tree's state, keeps the monitor ready, and is accepted where it is lent enough.
 use mathlib.Core.Path.{_≡_, refl, sym, ap, ap₂, subst, subst₂, _∙_}
-use mathlib.Core.Bool.{Bool, true, false, _&&_}
-use mathlib.Core.List.{List}
+use mathlib.Core.Bool.{Bool, true, false, cond}
+use mathlib.Core.List.{List, [], _∷_}
 use mathlib.Core.Option.{Option, none, some}
-use Prim.Native.Nat.{ℕ, zero, suc, _+_, _≤_, _<_}
+use Prim.Native.Nat.{ℕ, _+_, _≤_, _<_}
 use native.Mathlib.Omega.{arith}
-use lib.Dec.{eqb, leb, ltb}
-use lib.IntN.{ℤ, pos}
-use lib.ListN.{length, getD, replicate, length-replicate, getD-replicate, List·getD-append}
-use lib.Seq.{sets, sets-eq}
-use Rattle.formula.proofs.Cases.{true-false}
-use Rattle.formula.proofs.Trees.{some-inj, none-some}
-use Rattle.monitor.specs.Mon.{Check, range-check, delayed-check, obligation, Mon, check, And, Or, count}
-use Rattle.meaning.specs.Culprit.{minus-one}
-use Rattle.meaning.specs.State.{State, Stepped, step, fresh, newlyFailed}
-use Rattle.meaning.specs.Calls.{Call, refused, accepted, answerOf}
+use lib.ListN.{length}
+use Rattle.result.specs.Result.{Result, given, refused}
+use Rattle.formula.proofs.Trees.{some-inj}
+use Rattle.monitor.specs.Mon.{Mon}
+use Rattle.meaning.specs.State.{State, Stepped, step, newlyFailed}
+use Rattle.meaning.specs.Calls.{Call, accepted, stepAll, words, steps, Below}
 use Rattle.meaning.specs.Calls as calls
-use Rattle.meaning.specs.Machine.{Machine, Follows}
-use Rattle.stepping.specs.declared.state.NodeState.{NodeState}
-use Rattle.stepping.specs.declared.call.Verdict.{Verdict}
-use Rattle.stepping.specs.declared.call.Verdict.the-variants.{Accepted, Refused}
-use Rattle.stepping.specs.Memory.{Memory, get, Inside}
-use Rattle.stepping.specs.Check.{readCheck}
-use Rattle.stepping.specs.Walk.{readMon, writeMon}
-use Rattle.stepping.specs.Call.{Tables, Monitor, Stepping, isLent, ruleMon, fits, orRefuse, refuse, accept, stepMon, stepCall, Known}
-use Rattle.stepping.specs.Fresh.{cleared}
-use Rattle.stepping.proofs.Memories.{inside-less, read-back}
-use Rattle.stepping.proofs.Calling.{known-comparable}
-use Rattle.stepping.proofs.Standings.{stood}
-use Rattle.reports.specs.Calls.{StepCall, replyOf, callOf, monitorOf, outcome, machine, OwnTable, ReadsAs}
+use Rattle.meaning.specs.Demand.{Fair, Lent}
+use Rattle.meaning.proofs.Machines.{Lawful}
+use Rattle.node_step.specs.Memory.{Memory}
+use Rattle.lent.specs.Lent.{Tables, Monitor, ruleMon, HoldsRule, Ready}
+use Rattle.stepping.specs.Walk.{readMon}
+use Rattle.stepping.specs.Call.{Stepping, stepCall, with}
+use Rattle.stepping.proofs.Staying.{stays-ready, Answered, no-step, steps as stepped, answered, refused-leaves, accepted-windows}
+use Rattle.runs.specs.Run.{answersOf, memoryAfter, firstReport, onReport, Running, manySteps, runCall, Accepts, Each}
+use Rattle.runs.proofs.Calls.{ready-after}
+use Rattle.runs.proofs.Runs.{is-calls, all-accepted, refused-untouched, fits-again, no-words}
+use Rattle.reports.specs.Calls.{Event, step-call, run-call, inTurn, callsBy, stepReport, runReport, callsOf, reportOf, after, onSlices, ReadsAs}
 
--- ---- what a call can answer
-pub data Answered (t : Tables) (k : Monitor) (s w : ℕ) (c : Stepping) : Type 0 where
-  no-step : (n : ℕ) → c ≡ refuse n (k .memory) → Answered t k s w c
-  steps : (d : Known t k) → c ≡ accept (d .mon) (k .memory) s w → Answered t k s w c
+-- ---- one accepted call of `step`, over the rule's own table
+module _ (m : Mon) (t : Tables) (own : ruleMon t ≡ some m) (k : Monitor) (s w : ℕ) (st : State m) (r : ReadsAs m k st) where
+  accepted-step : (b : Bool) → stepCall t k s w .answer ≡ given b → (readMon m (stepCall t k s w .memory) 0 ≡ step m st s w .state) × (b ≡ newlyFailed m st s w)
+  accepted-step b q =
+      let x = accepted-windows t k s w b q in
+      let same : x .mon ≡ m = some-inj (sym (x .rule) ∙ own) in
+      let (a, c) = subst (λ (y : Mon). (readMon y (stepCall t k s w .memory) 0 ≡ step y (readMon y (k .memory) 0) s w .state) × (b ≡ newlyFailed y (readMon y (k .memory) 0) s w)) same (x .steps, x .reports) in
+      (a ∙ ap (λ (y : State m). step m y s w .state) r, c ∙ ap (λ (y : State m). newlyFailed m y s w) r)
 
-pub answered : (t : Tables) (k : Monitor) (s w : ℕ) → Answered t k s w (stepCall t k s w)
-unfolding stepCall
-answered t k s w = lent (isLent t k) refl
+-- an accepted call went over tables with room, below 2^63
+pub accepted-room : (m : Mon) (t : Tables) (k : Monitor) (s w : ℕ) (b : Bool) → ruleMon t ≡ some m → stepCall t k s w .answer ≡ given b → HoldsRule t m × (s < 9223372036854775808)
+accepted-room m t k s w b own q = go (answered t k s w)
   where
-    late : (m : Mon) → ruleMon t ≡ some m → isLent t k ≡ true → (b : Bool) → Answered t k s w (orRefuse b 24 (k .memory) (accept m (k .memory) s w))
-    late m r l true = steps (record { mon = m; is = r; lent = l }) refl
-    late m r l false = no-step 24 refl
+    go : Answered t k s w (stepCall t k s w) → HoldsRule t m × (s < 9223372036854775808)
+    go (no-step n e) =
+        let p : stepCall t k s w .answer ≡ refused n = ap (λ (c : Stepping). c .answer) e in
+        let z : _≡_ {A = ℕ} 0 1 = cc in
+        absurd (omega arith)
+    go (stepped x a d h e) = (record { rule = own; room = a .room }, h)
 
-    fit : (m : Mon) → ruleMon t ≡ some m → isLent t k ≡ true → (b : Bool) → Answered t k s w (orRefuse b 2 (k .memory) (orRefuse (ltb s 9223372036854775808) 24 (k .memory) (accept m (k .memory) s w)))
-    fit m r l true = late m r l (ltb s 9223372036854775808)
-    fit m r l false = no-step 2 refl
+report-cond : (b : Bool) (s : ℕ) → stepReport (given b) s ≡ cond b (some s) none
+report-cond true s = refl
+report-cond false s = refl
 
-    known : (o : Option Mon) → ruleMon t ≡ o → isLent t k ≡ true → Answered t k s w (stepMon o t k s w)
-    known none r l = no-step 2 refl
-    known (some m) r l = fit m r l (fits t k)
+-- ---- a call of `step`
+module _ (m : Mon) (t : Tables) (s w : ℕ) (k : Monitor) where
+  abbrev one : List Call
+  one = accepted s w ∷ []
 
-    lent : (b : Bool) → isLent t k ≡ b → Answered t k s w (orRefuse b 1 (k .memory) (stepMon (ruleMon t) t k s w))
-    lent true l = known (ruleMon t) refl l
-    lent false l = no-step 1 refl
+  one-step : (b : Bool) → stepCall t k s w .answer ≡ given b → 1 ≤ steps (callsBy (stepCall t k s w .answer) one)
+  unfolding words
+  one-step b q = subst (λ (r : Result Bool). 1 ≤ steps (callsBy r one)) (sym q) (omega arith)
 
-inside-of : (t : Tables) (k : Monitor) (d : Known t k) (m : Mon) → d .mon ≡ m → Inside (k .memory) (0 + count m)
-inside-of t k d m same =
-    let o = stood (t .ops) (t .nums) (t .first) (t .count) (t .nodes) (t .nfirst) (t .ncount) (d .mon) (d .is) in
-    let z : count (d .mon) ≡ count m = ap count same in
-    inside-less (k .memory) (0 + count m) (t .ncount) (omega (arith, o .counted)) (known-comparable t k d .inside)
+  abbrev StepGoal : State m → Result Bool → Type 0
+  StepGoal st a = (readMon m (stepCall t k s w .memory) 0 ≡ stepAll m st (callsBy a one)) × (stepReport a s ≡ calls.reportOf m st (callsBy a one))
 
-module _ (size : ℕ) (forms bounds : List ℕ) (m : Mon) where
-  pub follows : Follows (machine size forms bounds) m (ReadsAs m) (OwnTable size forms bounds m)
-  follows e mem st r fair = go (answered (e .tables) (monitorOf size forms bounds mem) (e .at) (e .truths)) fair
+  step-follows : (st : State m) → ReadsAs m k st → Fair onSlices m (step-call t s w) k → ReadsAs m (after (step-call t s w) k) (stepAll m st (callsOf (step-call t s w) k)) × (reportOf (step-call t s w) k ≡ calls.reportOf m st (callsOf (step-call t s w) k))
+  unfolding stepAll calls.reportOf
+  step-follows st r fair = go (stepCall t k s w .answer) refl
     where
-      go : Answered (e .tables) (monitorOf size forms bounds mem) (e .at) (e .truths) (outcome size forms bounds e mem) → OwnTable size forms bounds m e mem → ReadsAs m (machine size forms bounds .run e mem) (calls.stepCall m st (machine size forms bounds .call e mem)) × (machine size forms bounds .reply e mem ≡ answerOf m st (machine size forms bounds .call e mem))
-      go (no-step n q) own =
-          let a : outcome size forms bounds e mem .answer ≡ Refused n = ap (λ (x : Stepping). x .answer) q in (
-            subst₂ (λ (x : Memory) (y : Verdict). readMon m x 0 ≡ calls.stepCall m st (callOf y (e .at) (e .truths))) (sym (ap (λ (x : Stepping). x .memory) q)) (sym a) r,
-            subst (λ (y : Verdict). replyOf y ≡ answerOf m st (callOf y (e .at) (e .truths))) (sym a) refl,
-          )
-      go (steps d q) own =
-          let a : outcome size forms bounds e mem .answer ≡ Accepted (newlyFailed (d .mon) (readMon (d .mon) mem 0) (e .at) (e .truths)) = ap (λ (x : Stepping). x .answer) q in
-          let same : d .mon ≡ m = some-inj (sym (d .is) ∙ own _ a) in
-          let q′ : outcome size forms bounds e mem ≡ accept m mem (e .at) (e .truths) = q ∙ ap (λ (x : Mon). accept x mem (e .at) (e .truths)) same in
-          let i : Inside mem (0 + count m) = inside-of (e .tables) (monitorOf size forms bounds mem) d m same in
-          subst (λ (c : Stepping). (readMon m (c .memory) 0 ≡ calls.stepCall m st (callOf (c .answer) (e .at) (e .truths))) × (replyOf (c .answer) ≡ answerOf m st (callOf (c .answer) (e .at) (e .truths)))) (sym q′) (
-            read-back m (step m (readMon m mem 0) (e .at) (e .truths) .state) mem 0 i ∙ ap (λ (x : State m). step m x (e .at) (e .truths) .state) r,
-            ap (λ (x : State m). newlyFailed m x (e .at) (e .truths)) r,
-          )
+      go : (a : Result Bool) → stepCall t k s w .answer ≡ a → StepGoal st (stepCall t k s w .answer)
+      go (given b) q =
+          let (x, y) = accepted-step m t (fair (one-step b q)) k s w st r b q in
+          subst (StepGoal st) (sym q) (x, report-cond b s ∙ ap (λ (c : Bool). cond c (some s) none) y)
+      go (refused n) q = subst (StepGoal st) (sym q) (ap (λ (x : Memory). readMon m x 0) (refused-leaves t k s w n q) ∙ r, refl)
 
--- ---- a fresh monitor
-module _ (mem : Memory) (n : ℕ) (d : Inside mem n) where
-  front : {A : Type 0} (l : List A) (v e : A) (k : ℕ) → n ≤ length l → k < n → getD (sets l 0 (replicate n v)) k e ≡ v
-  front l v e k h g =
-      ap (λ (x : List _). getD x k e) (sets-eq (replicate n v) l 0 (subst (λ (j : ℕ). 0 + j ≤ length l) (sym (length-replicate n v)) (omega arith)))
-      ∙ List·getD-append (replicate n v) _ e k (subst (λ (j : ℕ). k < j) (sym (length-replicate n v)) g)
-      ∙ getD-replicate n k v e g
+  step-stays : Ready k m → Fair onSlices m (step-call t s w) k → Ready (after (step-call t s w) k) m
+  step-stays d fair = go (stepCall t k s w .answer) refl
+    where
+      go : (a : Result Bool) → stepCall t k s w .answer ≡ a → Ready (with k (stepCall t k s w .memory)) m
+      go (given b) q =
+          let (a, h) = accepted-room m t k s w b (fair (one-step b q)) q in
+          stays-ready t k m a d s w h .again
+      go (refused n) q = subst (λ (x : Memory). Ready (with k x) m) (sym (refused-leaves t k s w n q)) d
 
-  abbrev pub blank : NodeState
-  blank = record { held = false; remaining = 0; failed = false; culprit = minus-one }
+  step-takes : Ready k m → Lent onSlices m (step-call t s w) → callsOf (step-call t s w) k ≡ accepted s w ∷ []
+  unfolding Below
+  step-takes d g =
+      let x = stays-ready t k m (record { rule = g .own; room = g .roomy }) d s w (g .below .0) in
+      ap (λ (c : Stepping). callsBy (c .answer) one) (x .accepted)
 
-  pub clear-entry : (k : ℕ) → k < n → get (cleared mem n) k ≡ blank
-  clear-entry k h = λ i. record {
-    held = front (mem .held) false false k (d .held) h i;
-    remaining = front (mem .remaining) 0 0 k (d .remaining) h i;
-    failed = front (mem .failed) false false k (d .failed) h i;
-    culprit = front (mem .culprits) minus-one (pos 0) k (d .culprits) h i;
-  }
+-- ---- a call of `run`
+report-first : {A : Type 0} (v : Result Bool) (b : Bool) (x y : A) → v ≡ given b → onReport v x y ≡ cond b x y
+report-first v true x y q = ap (λ (r : Result Bool). onReport r x y) q
+report-first v false x y q = ap (λ (r : Result Bool). onReport r x y) q
 
-  pub fresh-reads : (m : Mon) (k : ℕ) → k + count m ≤ n → readMon m (cleared mem n) k ≡ fresh m
-  unfolding readMon count
-  fresh-reads (check (range-check p r)) k h = ap (readCheck (range-check p r)) (clear-entry k (omega arith))
-  fresh-reads (check (delayed-check p q r)) k h = ap (readCheck (delayed-check p q r)) (clear-entry k (omega arith))
-  fresh-reads (check (obligation b p q r)) k h = ap (readCheck (obligation b p q r)) (clear-entry k (omega arith))
-  fresh-reads (And m o) k h = λ i. record {
-    left = fresh-reads m (k + 1) (omega arith) i;
-    right = fresh-reads o (k + 1 + count m) (omega arith) i;
-    failed = clear-entry k (omega arith) i .failed;
-    culprit = clear-entry k (omega arith) i .culprit;
-  }
-  fresh-reads (Or m o) k h = λ i. record {
-    left = fresh-reads m (k + 1) (omega arith) i;
-    right = fresh-reads o (k + 1 + count m) (omega arith) i;
-    failed = clear-entry k (omega arith) i .failed;
-    culprit = clear-entry k (omega arith) i .culprit;
-  }
+-- accepted calls one behind the other
+many : (m : Mon) (t : Tables) → ruleMon t ≡ some m → (ws : List ℕ) (k : Monitor) (s : ℕ) (st : State m) → ReadsAs m k st → Each Accepts (answersOf t k s ws) → (readMon m (memoryAfter t k s ws) 0 ≡ stepAll m st (inTurn s ws)) × (firstReport s (answersOf t k s ws) ≡ calls.reportOf m st (inTurn s ws))
+unfolding answersOf memoryAfter firstReport inTurn stepAll calls.reportOf Each
+many m t own [] k s st r e = (r, refl)
+many m t own (w ∷ ws) k s st r e =
+    let (b, q) = e .0 in
+    let (x, y) = accepted-step m t own k s w st r b q in
+    let (u, v) = many m t own ws (with k (stepCall t k s w .memory)) (s + 1) (step m st s w .state) x (e .1) in
+    (u, report-first (stepCall t k s w .answer) b (some s) (firstReport (s + 1) (answersOf t (with k (stepCall t k s w .memory)) (s + 1) ws)) q ∙ ap₂ (λ (c : Bool) (o : Option ℕ). cond c (some s) o) y v)
+
+given-inj : {A : Type 0} {a b : A} → given a ≡ given b → a ≡ b
+given-inj e = cc
+
+not-refused : {A : Type 0} {c : Result A} {a : A} → c ≡ given a → (n : ℕ) → c ≡ refused n → ⊥
+not-refused p n q = let z : _≡_ {A = ℕ} 0 1 = cc in omega arith
+
+below-all : (ws : List ℕ) (s w : ℕ) → Below (inTurn s (w ∷ ws)) → s + length (w ∷ ws) ≤ 9223372036854775808
+unfolding Below inTurn
+below-all [] s w h = omega (arith, h .0)
+below-all (v ∷ ws) s w h = omega (arith, below-all ws (s + 1) v (h .1))
+
+module _ (m : Mon) (t : Tables) (s : ℕ) (k : Monitor) where
+  -- over words that were stepped the rule's own table was lent
+  fair-own : (w : ℕ) (ws : List ℕ) (o : Option ℕ) → runCall t k s (w ∷ ws) .answer ≡ given o → Fair onSlices m (run-call t s (w ∷ ws)) k → ruleMon t ≡ some m
+  unfolding words inTurn
+  fair-own w ws o q fair = fair (subst (λ (a : Result (Option ℕ)). 1 ≤ steps (callsBy a (inTurn s (w ∷ ws)))) (sym q) (omega arith))
+
+  taken-follows : (ws : List ℕ) (st : State m) (o : Option ℕ) → runCall t k s ws .answer ≡ given o → ReadsAs m k st → Fair onSlices m (run-call t s ws) k → (readMon m (runCall t k s ws .memory) 0 ≡ stepAll m st (inTurn s ws)) × (o ≡ calls.reportOf m st (inTurn s ws))
+  unfolding answersOf memoryAfter firstReport inTurn stepAll calls.reportOf
+  taken-follows [] st o q r fair =
+      let e = is-calls t k s [] (not-refused q) in
+      (ap (λ (c : Running). readMon m (c .memory) 0) e ∙ r, given-inj (sym q ∙ ap (λ (c : Running). c .answer) e))
+  taken-follows (w ∷ ws) st o q r fair =
+      let e = is-calls t k s (w ∷ ws) (not-refused q) in
+      let (x, y) = many m t (fair-own w ws o q fair) (w ∷ ws) k s st r (all-accepted t k s (w ∷ ws) (not-refused q)) in
+      (ap (λ (c : Running). readMon m (c .memory) 0) e ∙ x, given-inj (sym q ∙ ap (λ (c : Running). c .answer) e) ∙ y)
+
+  abbrev RunGoal : List ℕ → State m → Result (Option ℕ) → Type 0
+  RunGoal ws st a = (readMon m (runCall t k s ws .memory) 0 ≡ stepAll m st (callsBy a (inTurn s ws))) × (runReport a ≡ calls.reportOf m st (callsBy a (inTurn s ws)))
+
+  run-follows : (ws : List ℕ) (st : State m) → ReadsAs m k st → Fair onSlices m (run-call t s ws) k → ReadsAs m (after (run-call t s ws) k) (stepAll m st (callsOf (run-call t s ws) k)) × (reportOf (run-call t s ws) k ≡ calls.reportOf m st (callsOf (run-call t s ws) k))
+  unfolding stepAll calls.reportOf
+  run-follows ws st r fair = go (runCall t k s ws .answer) refl
+    where
+      go : (a : Result (Option ℕ)) → runCall t k s ws .answer ≡ a → RunGoal ws st (runCall t k s ws .answer)
+      go (given o) q = subst (RunGoal ws st) (sym q) (taken-follows ws st o q r fair)
+      go (refused n) q = subst (RunGoal ws st) (sym q) (ap (λ (x : Memory). readMon m x 0) (refused-untouched t k s ws n q) ∙ r, refl)
+
+  run-stays : (ws : List ℕ) → Ready k m → Fair onSlices m (run-call t s ws) k → Ready (after (run-call t s ws) k) m
+  unfolding memoryAfter answersOf Each
+  run-stays ws d fair = go ws (runCall t k s ws .answer) refl fair
+    where
+      go : (vs : List ℕ) (a : Result (Option ℕ)) → runCall t k s vs .answer ≡ a → Fair onSlices m (run-call t s vs) k → Ready (with k (runCall t k s vs .memory)) m
+      go vs (refused n) q f = subst (λ (x : Memory). Ready (with k x) m) (sym (refused-untouched t k s vs n q)) d
+      go [] (given o) q f = subst (λ (c : Running). Ready (with k (c .memory)) m) (sym (is-calls t k s [] (not-refused q))) d
+      go (w ∷ vs) (given o) q f =
+          let (b, p) = all-accepted t k s (w ∷ vs) (not-refused q) .0 in
+          let (a, h) = accepted-room m t k s w b (fair-own w vs o q f) p in
+          subst (λ (c : Running). Ready (with k (c .memory)) m) (sym (is-calls t k s (w ∷ vs) (not-refused q))) (ready-after t m a (w ∷ vs) k s d)
+
+  run-takes : (ws : List ℕ) → Ready k m → Lent onSlices m (run-call t s ws) → callsOf (run-call t s ws) k ≡ inTurn s ws
+  run-takes [] d g =
+      let a : HoldsRule t m = record { rule = g .own; room = g .roomy } in
+      ap (λ (c : Running). callsBy (c .answer) (inTurn s [])) (no-words t k s 0 ∙ fits-again t k 0 [] m a d (omega arith) .taken)
+  run-takes (w ∷ ws) d g =
+      let a : HoldsRule t m = record { rule = g .own; room = g .roomy } in
+      ap (λ (c : Running). callsBy (c .answer) (inTurn s (w ∷ ws))) (fits-again t k s (w ∷ ws) m a d (below-all ws s w (g .below)) .taken)
+
+-- ---- the machine
+pub lawful : (m : Mon) → Lawful onSlices m (ReadsAs m) (λ k. Ready k m)
+lawful m = record { follows = follows; stays = stays; takes = takes }
+  where
+    follows : (e : Event) (k : Monitor) (st : State m) → ReadsAs m k st → Fair onSlices m e k → ReadsAs m (after e k) (stepAll m st (callsOf e k)) × (reportOf e k ≡ calls.reportOf m st (callsOf e k))
+    follows (step-call t s w) k st r f = step-follows m t s w k st r f
+    follows (run-call t s ws) k st r f = run-follows m t s k ws st r f
+
+    stays : (e : Event) (k : Monitor) → Ready k m → Fair onSlices m e k → Ready (after e k) m
+    stays (step-call t s w) k d f = step-stays m t s w k d f
+    stays (run-call t s ws) k d f = run-stays m t s k ws d f
+
+    takes : (e : Event) (k : Monitor) → Ready k m → Lent onSlices m e → callsOf e k ≡ onSlices .asks e
+    takes (step-call t s w) k d g = step-takes m t s w k d g
+    takes (run-call t s ws) k d g = run-takes m t s k ws d g

@@ -1,6 +1,3 @@
 -- Demand 3 of the code's calls.
 pub mod Following
 pub mod Demand
-pub mod Starting
-pub mod OverRecord
-pub mod OverRun

@@ -1,54 +1,104 @@
--- The code's calls as a machine: an event is a step call with whatever it is lent besides the monitor, and the memory is the monitor's.
--- `step`'s contract is equality with `stepCall` (crates/stepping), of which the machine is made.
-use mathlib.Core.Bool.{Bool, false}
-use mathlib.Core.List.{List}
-use mathlib.Core.Option.{some}
+-- The calls on lent slices as a machine (crate meaning, specs/Demand.antt): its memory is the lent monitor, and an event is a call of `step` or of
+-- `run` with whatever tables it is lent. The contracts of `step` and `run` are equality with `stepCall` and `runCall`, of which the machine is made.
+--     onSlices      the machine
+--     DemandThree   demand 3 of these calls, from the answers of `compile_formula` and `fresh` on
+use mathlib.Core.Bool.{Bool, true, false}
+use mathlib.Core.List.{List, [], _∷_}
+use mathlib.Core.Option.{Option, none, some}
 use mathlib.Core.Path.{_≡_}
-use Prim.Native.Nat.{ℕ}
+use Prim.Native.Nat.{ℕ, _+_}
+use Rattle.result.specs.Result.{Result, given, refused}
+use Rattle.formula.specs.Formula.{Formula}
+use Rattle.formula.specs.Table.{ruleOf}
 use Rattle.monitor.specs.Mon.{Mon}
+use Rattle.monitor.specs.Compile.{ruleNode}
+use Rattle.compiler.specs.Compiled.{compileCall}
+use Rattle.meaning.specs.Calls.{Call, accepted}
+use Rattle.meaning.specs.Calls as calls
+use Rattle.meaning.specs.Demand.{Machine, Demand}
 use Rattle.meaning.specs.State.{State}
-use Rattle.meaning.specs.Calls.{Call, refused, accepted}
-use Rattle.meaning.specs.Machine.{Machine}
-use Rattle.stepping.specs.declared.call.Verdict.{Verdict}
-use Rattle.stepping.specs.declared.call.Verdict.the-variants.{Accepted, Refused}
-use Rattle.stepping.specs.Memory.{Memory}
+use Rattle.node_step.specs.Memory.{Memory}
+use Rattle.lent.specs.Lent.{Tables, Monitor, tableRoom, ruleMon}
 use Rattle.stepping.specs.Walk.{readMon}
-use Rattle.stepping.specs.Call.{Tables, Monitor, Stepping, ruleMon, stepCall}
+use Rattle.stepping.specs.Call.{stepCall, with}
+use Rattle.stepping.specs.Fresh.{Making, making}
+use Rattle.runs.specs.Run.{runCall}
 
--- the tables that a call is lent, its step and its truths
-pub record StepCall : Type 0 where
-  pub tables : Tables
-  pub at : ℕ
-  pub truths : ℕ
+-- a call of `step` at s with truths w, or of `run` from s on over words
+pub data Event : Type 0 where
+  step-call : Tables → (s w : ℕ) → Event
+  run-call : Tables → (s : ℕ) → List ℕ → Event
 
-abbrev pub replyOf : Verdict → Bool
-replyOf (Accepted b) = b
-replyOf (Refused n) = false
+abbrev pub tablesOf : Event → Tables
+tablesOf (step-call t s w) = t
+tablesOf (run-call t s ws) = t
 
-abbrev pub callOf : Verdict → ℕ → ℕ → Call
-callOf (Accepted b) s w = accepted s w
-callOf (Refused n) s w = refused
+-- s, s + 1 and on, a word each
+unfoldable pub inTurn : ℕ → List ℕ → List Call
+inTurn s [] = []
+inTurn s (w ∷ ws) = accepted s w ∷ inTurn (s + 1) ws
 
--- a monitor of `size` nodes with these forms and bounds, which no call changes
-module _ (size : ℕ) (forms bounds : List ℕ) where
-  abbrev pub monitorOf : Memory → Monitor
-  monitorOf mem = record { size = size; forms = forms; bounds = bounds; memory = mem }
+abbrev pub asked : Event → List Call
+asked (step-call t s w) = accepted s w ∷ []
+asked (run-call t s ws) = inTurn s ws
 
-  -- the answer to a call, and the memory afterwards
-  abbrev pub outcome : StepCall → Memory → Stepping
-  outcome e mem = stepCall (e .tables) (monitorOf mem) (e .at) (e .truths)
+-- where a result is given, all that was asked for was accepted
+abbrev pub callsBy : {A : Type 0} → Result A → List Call → List Call
+callsBy (given a) cs = cs
+callsBy (refused n) cs = calls.refused ∷ []
 
-  abbrev pub machine : Machine Memory StepCall
-  machine = record {
-    run = λ e mem. outcome e mem .memory;
-    reply = λ e mem. replyOf (outcome e mem .answer);
-    call = λ e mem. callOf (outcome e mem .answer) (e .at) (e .truths);
-  }
+-- a step call that is accepted and finds the rule newly broken reports its step
+abbrev pub stepReport : Result Bool → ℕ → Option ℕ
+stepReport (given true) s = some s
+stepReport (given false) s = none
+stepReport (refused n) s = none
 
-  -- an accepted call goes over the rule's own table: the tables hold the compiled rule m
-  abbrev pub OwnTable : Mon → StepCall → Memory → Type 0
-  OwnTable m e mem = (b : Bool) → outcome e mem .answer ≡ Accepted b → ruleMon (e .tables) ≡ some m
+-- a run names the step that it reports
+abbrev pub runReport : Result (Option ℕ) → Option ℕ
+runReport (given r) = r
+runReport (refused n) = none
 
--- the memory reads as a state of m
-abbrev pub ReadsAs : (m : Mon) → Memory → State m → Type 0
-ReadsAs m mem st = readMon m mem 0 ≡ st
+abbrev pub callsOf : Event → Monitor → List Call
+callsOf (step-call t s w) k = callsBy (stepCall t k s w .answer) (accepted s w ∷ [])
+callsOf (run-call t s ws) k = callsBy (runCall t k s ws .answer) (inTurn s ws)
+
+abbrev pub reportOf : Event → Monitor → Option ℕ
+reportOf (step-call t s w) k = stepReport (stepCall t k s w .answer) s
+reportOf (run-call t s ws) k = runReport (runCall t k s ws .answer)
+
+abbrev pub after : Event → Monitor → Monitor
+after (step-call t s w) k = with k (stepCall t k s w .memory)
+after (run-call t s ws) k = with k (runCall t k s ws .memory)
+
+abbrev pub onSlices : Machine Monitor Event
+onSlices = record {
+  asks = asked;
+  Own = λ e m. ruleMon (tablesOf e) ≡ some m;
+  Roomy = λ e. tableRoom (tablesOf e .ops) (tablesOf e .nums) (tablesOf e .nodes) ≡ true;
+  calls = callsOf;
+  reports = reportOf;
+  run = after;
+}
+
+-- the monitor reads as a state of m
+abbrev pub ReadsAs : (m : Mon) → Monitor → State m → Type 0
+ReadsAs m k st = readMon m (k .memory) 0 ≡ st
+
+-- ---- from the answers on
+-- the tables after compiling the rule at `first` of `count` nodes into `out`, n nodes
+abbrev pub compiledTables : List ℕ → List ℕ → ℕ → ℕ → List ℕ → ℕ → Tables
+compiledTables ops nums first count out n =
+    record { ops = ops; nums = nums; first = first; count = count; nodes = compileCall ops nums first count out .out; nfirst = 0; ncount = n }
+
+-- the monitor of n nodes after making it
+abbrev pub madeMonitor : ℕ → Making → Monitor
+madeMonitor n c = record { size = n; forms = c .forms; bounds = c .bounds; memory = c .memory }
+
+-- the rule f compiles to n nodes, and its fresh monitor is made of n nodes in what is lent: demand 3 holds from there on
+abbrev pub DemandThree : Type 0
+DemandThree =
+    (ops nums : List ℕ) (first count : ℕ) (f : Formula) → ruleOf ops nums first count ≡ some f →
+    (out : List ℕ) (n : ℕ) → compileCall ops nums first count out .answer ≡ given n →
+    (forms bounds : List ℕ) (mem : Memory) → making (compiledTables ops nums first count out n) forms bounds mem .answer ≡ given n →
+    Demand onSlices f (ruleNode f first) (ReadsAs (ruleNode f first))
+    (madeMonitor n (making (compiledTables ops nums first count out n) forms bounds mem))

@@ -10,6 +10,7 @@ use mir.Val.{Fits}
 use mir.Syntax.{w64}
 use lib.ListN.{length, set, take, drop, length-drop}
 use lib.Seq.{sets, sets-eq, take-all, drop-length, drop-drop}
+use Rattle.result.specs.Result.{given, refused}
 use Rattle.formula.specs.Formula.{Formula}
 use Rattle.formula.specs.Table.{Rule as IsRuleOf, IsRule}
 use Rattle.formula.proofs.Rules.{rule-inv, both-long}
@@ -18,7 +19,7 @@ use Rattle.monitor.specs.Mon.{Mon, count}
 use Rattle.monitor.specs.Compile.{ruleFaults, ruleNode}
 use Rattle.compiler.specs.declared.Compiled.{Compiled}
 use Rattle.compiler.specs.declared.Compiled.the-variants.{Nodes, Refused}
-use Rattle.compiler.specs.Compiled.{Call, firstOr, compileFormula, orShort, ruleCall, compileCall, Answers}
+use Rattle.compiler.specs.Compiled.{resultOf, Call, firstOr, compileFormula, orShort, ruleCall, compileCall, Answers}
 use Rattle.compiler.proofs.Joining.{count-size, rows-length}
 use Rattle.rules.specs.Rules.{Rule, firstOf, refusal, mon}
 use Rattle.rules.specs.Made.{answerBy, rowsBy, countBy, rowsOf, countOf, Stands, Made, Entering}
@@ -95,11 +96,11 @@ module _ (ops nums : List ℕ) (first count′ i : ℕ) (nodes : List ℕ) (h : 
   }
 
 -- ---- entered in the lists
-by-nodes : (fs : List ℕ) (m : Mon) (k : ℕ) → Nodes k ≡ answerBy fs m → (countBy fs m ≡ k) × (firstOf fs ≡ 0)
+by-nodes : (fs : List ℕ) (m : Mon) (k : ℕ) → given k ≡ answerBy fs m → (countBy fs m ≡ k) × (firstOf fs ≡ 0)
 by-nodes [] m k e = (cc, refl)
 by-nodes (n ∷ ns) m k e = let z : _≡_ {A = ℕ} 0 1 = cc in absurd (omega arith)
 
-by-refusal : (fs : List ℕ) (m : Mon) (k : ℕ) → Refused k ≡ answerBy fs m → (countBy fs m ≡ 0) × (firstOf fs ≡ k)
+by-refusal : (fs : List ℕ) (m : Mon) (k : ℕ) → refused k ≡ answerBy fs m → (countBy fs m ≡ 0) × (firstOf fs ≡ k)
 by-refusal [] m k e = let z : _≡_ {A = ℕ} 0 1 = cc in absurd (omega arith)
 by-refusal (n ∷ ns) m k e = (refl, cc)
 
@@ -109,14 +110,14 @@ module _ (ops nums : List ℕ) (first count′ i : ℕ) (nodes nodes′ : List �
     some-fits p h =
         let q : Rule = record { label = []; kind = 0; first = first; formula = p .formula } in
         let s : Stands ops nums first count′ q = record { formula = p .is; place = refl } in
-        let (x, y) = by-nodes (ruleFaults (q .formula)) (mon q) k (sym e ∙ u .answers q s) in
+        let (x, y) = by-nodes (ruleFaults (q .formula)) (mon q) k (sym (ap resultOf e) ∙ u .answers q s) in
         record { fits = omega (arith, count-few ops nums first count′ q s) }
 
     pub some-entered : (r : ℕ) (nfirsts ncounts refusals : List ℕ) → Entering ops nums first count′ r i (i + k) nodes nodes′ nfirsts (set nfirsts r i) ncounts (set ncounts r k) refusals (set refusals r 0)
     unfolding refusal
     some-entered r nfirsts ncounts refusals = record {
       is = λ q s.
-          let (x, y) = by-nodes (ruleFaults (q .formula)) (mon q) k (sym e ∙ u .answers q s) in
+          let (x, y) = by-nodes (ruleFaults (q .formula)) (mon q) k (sym (ap resultOf e) ∙ u .answers q s) in
           record {
             ends = ap (λ (v : ℕ). i + v) (sym x);
             rows-are = u .leaves q s;
@@ -131,7 +132,7 @@ module _ (ops nums : List ℕ) (first count′ i : ℕ) (nodes nodes′ : List �
     unfolding refusal
     none-entered r nfirsts ncounts refusals = record {
       is = λ q s.
-          let (x, y) = by-refusal (ruleFaults (q .formula)) (mon q) k (sym e ∙ u .answers q s) in
+          let (x, y) = by-refusal (ruleFaults (q .formula)) (mon q) k (sym (ap resultOf e) ∙ u .answers q s) in
           record {
             ends = omega arith;
             rows-are = u .leaves q s;

@@ -8,18 +8,19 @@ use mathlib.Core.Path.{_≡_}
 use Prim.Native.Nat.{ℕ, _+_, _*_, _≤_, _<_}
 use lib.ListN.{length, getD, set}
 use lib.Seq.{sets}
+use Rattle.result.specs.Result.{Result, given, refused}
 use Rattle.formula.specs.Table.{ruleOf, IsRule}
 use Rattle.monitor.specs.Mon.{Mon, count, rows}
 use Rattle.monitor.specs.Compile.{ruleFaults}
 use Rattle.compiler.specs.declared.Compiled.{Compiled}
-use Rattle.compiler.specs.declared.Compiled.the-variants.{Nodes, Refused}
+use Rattle.compiler.specs.Compiled.{resultOf}
 use Rattle.rules.specs.Rules.{Rule, refusal, mon}
 use Rattle.rules.specs.Tabled.{Held, Tabled}
 
--- by the refusals that apply and the rule's node: the answer, the rows and their count
-abbrev pub answerBy : List ℕ → Mon → Compiled
-answerBy [] m = Nodes (count m)
-answerBy (n ∷ ns) m = Refused n
+-- by the refusals that apply and the rule's node: the result, the rows and their count
+abbrev pub answerBy : List ℕ → Mon → Result ℕ
+answerBy [] m = given (count m)
+answerBy (n ∷ ns) m = refused n
 
 abbrev pub rowsBy : List ℕ → Mon → List ℕ
 rowsBy [] m = rows m
@@ -29,7 +30,7 @@ abbrev pub countBy : List ℕ → Mon → ℕ
 countBy [] m = count m
 countBy (n ∷ ns) m = 0
 
-abbrev pub answerOf : Rule → Compiled
+abbrev pub answerOf : Rule → Result ℕ
 answerOf q = answerBy (ruleFaults (q .formula)) (mon q)
 
 abbrev pub rowsOf : Rule → List ℕ
@@ -45,7 +46,7 @@ pub record Stands (ops nums : List ℕ) (first count : ℕ) (q : Rule) : Type 0 
 
 -- ---- one rule
 pub record Made (ops nums : List ℕ) (first count at : ℕ) (nodes nodes′ : List ℕ) (r : Compiled) : Type 0 where
-  pub answers : (q : Rule) → Stands ops nums first count q → r ≡ answerOf q
+  pub answers : (q : Rule) → Stands ops nums first count q → resultOf r ≡ answerOf q
   pub leaves : (q : Rule) → Stands ops nums first count q → nodes′ ≡ sets nodes (7 * at) (rowsOf q)
 
 -- what entering rule r asks: it is a rule, its rows have room, and it is in the lists

@@ -11,34 +11,37 @@ use lib.ListN.{length}
 use borrow.Author.Tests.{le-ltb, lt-ltb, ltb-true}
 use Rattle.formula.proofs.Cases.{below-or, true-false}
 use Rattle.formula.proofs.Walks.{both-true}
+use Rattle.result.specs.Result.{Result, given, refused}
 use Rattle.monitor.specs.Mon.{Mon}
 use Rattle.meaning.specs.State.{step, failed, newlyFailed}
 use Rattle.meaning.proofs.Meaning.{stays-marked, reports-once}
-use Rattle.stepping.specs.declared.call.Verdict.{Verdict}
-use Rattle.stepping.specs.declared.call.Verdict.the-variants.{Accepted, Refused}
-use Rattle.stepping.specs.Memory.{Memory}
+use Rattle.node_step.specs.Memory.{Memory}
 use Rattle.stepping.specs.Walk.{readMon}
-use Rattle.stepping.specs.Call.{Tables, Monitor, Stepping, isLent, ruleMon, fits, accept, stepMon, stepCall, with}
+use Rattle.lent.specs.Lent.{Tables, Monitor, isLent, ruleMon, fits, HoldsRule, Ready}
+use Rattle.lent.proofs.Standings.{lent-parts, lent-both}
+use Rattle.stepping.specs.Call.{Stepping, accept, stepMon, stepCall, with}
 use Rattle.stepping.specs.Call as one
 use Rattle.stepping.proofs.Memories.{read-back}
-use Rattle.stepping.proofs.Staying.{Ready, inside-own, stays-ready}
-use Rattle.runs.specs.declared.RunVerdict.the-variants.{Reported, Refused as NotRun}
+use Rattle.stepping.proofs.Staying.{inside-own, ready-call, stays-ready}
 use Rattle.runs.specs.Run.{answersOf, memoryAfter, firstReport, Running, refuse, orRefuse, manySteps, inTime, runMon, runCall, Taken, Accepts, Each, Some, Lowest, ReportsAt}
 use Rattle.runs.proofs.Running.{below-in-time}
 
+given-inj : {x y : Option ℕ} → given x ≡ given y → x ≡ y
+given-inj e = cc
+
 -- ---- lists of answers
-pub meet : {P Q : Verdict → Type 0} (vs : List Verdict) → Some P vs → Each Q vs → (v : Verdict) × P v × Q v
+pub meet : {P Q : Result Bool → Type 0} (vs : List (Result Bool)) → Some P vs → Each Q vs → (v : Result Bool) × P v × Q v
 unfolding Some Each
 meet [] p q = absurd p
 meet (v ∷ vs) (inl p) q = (v, p, q .0)
 meet (v ∷ vs) (inr p) q = meet vs p (q .1)
 
-pub each-map : {P Q : Verdict → Type 0} → ((v : Verdict) → P v → Q v) → (vs : List Verdict) → Each P vs → Each Q vs
+pub each-map : {P Q : Result Bool → Type 0} → ((v : Result Bool) → P v → Q v) → (vs : List (Result Bool)) → Each P vs → Each Q vs
 unfolding Each
 each-map f [] h = tt
 each-map f (v ∷ vs) h = (f v (h .0), each-map f vs (h .1))
 
-none-at : (vs : List Verdict) → Each (λ v. v ≡ Accepted true → ⊥) vs → (i : ℕ) → ReportsAt vs i → ⊥
+none-at : (vs : List (Result Bool)) → Each (λ v. v ≡ given true → ⊥) vs → (i : ℕ) → ReportsAt vs i → ⊥
 unfolding Each
 none-at [] h i p = let z : _≡_ {A = ℕ} 0 1 = cc in omega arith
 none-at (v ∷ vs) h zero p = h .0 p
@@ -51,145 +54,134 @@ reports-inside t (w ∷ ws) k s zero h = omega arith
 reports-inside t (w ∷ ws) k s (suc i) h = let z = reports-inside t ws (with k (stepCall t k s w .memory)) (s + 1) i h in omega arith
 
 -- the first report is one of them, and where there is one there is a first
-pub first-not-refused : (vs : List Verdict) (s n : ℕ) → firstReport s vs ≡ NotRun n → ⊥
-unfolding firstReport
-first-not-refused [] s n e = let z : _≡_ {A = ℕ} 0 1 = cc in omega arith
-first-not-refused (Accepted true ∷ vs) s n e = let z : _≡_ {A = ℕ} 0 1 = cc in omega arith
-first-not-refused (Accepted false ∷ vs) s n e = first-not-refused vs (s + 1) n e
-first-not-refused (Refused m ∷ vs) s n e = first-not-refused vs (s + 1) n e
-
-pub record FoundAt (vs : List Verdict) (s n : ℕ) : Type 0 where
+pub record FoundAt (vs : List (Result Bool)) (s n : ℕ) : Type 0 where
   pub at-word : ℕ
   pub step-is : n ≡ s + at-word
   pub reports : ReportsAt vs at-word
 
-found-later : (v : Verdict) (vs : List Verdict) (s n : ℕ) → FoundAt vs (s + 1) n → FoundAt (v ∷ vs) s n
+found-later : (v : Result Bool) (vs : List (Result Bool)) (s n : ℕ) → FoundAt vs (s + 1) n → FoundAt (v ∷ vs) s n
 found-later v vs s n f = record { at-word = suc (f .at-word); step-is = omega (arith, f .step-is); reports = f .reports }
 
-pub found : (vs : List Verdict) (s n : ℕ) → firstReport s vs ≡ Reported n → FoundAt vs s n
+pub found : (vs : List (Result Bool)) (s n : ℕ) → firstReport s vs ≡ some n → FoundAt vs s n
 unfolding firstReport
 found [] s n e = let z : _≡_ {A = ℕ} 0 1 = cc in absurd (omega arith)
-found (Accepted true ∷ vs) s n e = let z : s ≡ n = cc in record { at-word = 0; step-is = omega arith; reports = refl }
-found (Accepted false ∷ vs) s n e = found-later (Accepted false) vs s n (found vs (s + 1) n e)
-found (Refused m ∷ vs) s n e = found-later (Refused m) vs s n (found vs (s + 1) n e)
+found (given true ∷ vs) s n e = let z : s ≡ n = cc in record { at-word = 0; step-is = omega arith; reports = refl }
+found (given false ∷ vs) s n e = found-later (given false) vs s n (found vs (s + 1) n e)
+found (refused m ∷ vs) s n e = found-later (refused m) vs s n (found vs (s + 1) n e)
 
-pub finds : (vs : List Verdict) (s i : ℕ) → ReportsAt vs i → (n : ℕ) × (firstReport s vs ≡ Reported n)
+pub finds : (vs : List (Result Bool)) (s i : ℕ) → ReportsAt vs i → (n : ℕ) × (firstReport s vs ≡ some n)
 unfolding firstReport
 finds [] s i e = let z : _≡_ {A = ℕ} 0 1 = cc in absurd (omega arith)
-finds (Accepted true ∷ vs) s i e = (s, refl)
-finds (Accepted false ∷ vs) s zero e = let z : false ≡ true = cc in true-false z refl
-finds (Accepted false ∷ vs) s (suc i) e = finds vs (s + 1) i e
-finds (Refused m ∷ vs) s zero e = let z : _≡_ {A = ℕ} 0 1 = cc in absurd (omega arith)
-finds (Refused m ∷ vs) s (suc i) e = finds vs (s + 1) i e
+finds (given true ∷ vs) s i e = (s, refl)
+finds (given false ∷ vs) s zero e = let z : false ≡ true = cc in true-false z refl
+finds (given false ∷ vs) s (suc i) e = finds vs (s + 1) i e
+finds (refused m ∷ vs) s zero e = let z : _≡_ {A = ℕ} 0 1 = cc in absurd (omega arith)
+finds (refused m ∷ vs) s (suc i) e = finds vs (s + 1) i e
 
 -- ---- where each call is refused with the same number
-pub all-refused : (t : Tables) (k : Monitor) (n : ℕ) → ((s w : ℕ) → stepCall t k s w ≡ one.refuse n (k .memory)) → (ws : List ℕ) (s : ℕ) → Each (λ v. v ≡ Refused n) (answersOf t k s ws)
+pub all-refused : (t : Tables) (k : Monitor) (n : ℕ) → ((s w : ℕ) → stepCall t k s w ≡ one.refuse n (k .memory)) → (ws : List ℕ) (s : ℕ) → Each (λ v. v ≡ refused n) (answersOf t k s ws)
 unfolding Each answersOf
 all-refused t k n h [] s = tt
 all-refused t k n h (w ∷ ws) s = (
   ap (λ (c : Stepping). c .answer) (h s w),
-  subst (λ (c : Stepping). Each (λ v. v ≡ Refused n) (answersOf t (with k (c .memory)) (s + 1) ws)) (sym (h s w)) (all-refused t k n h ws (s + 1)),
+  subst (λ (c : Stepping). Each (λ v. v ≡ refused n) (answersOf t (with k (c .memory)) (s + 1) ws)) (sym (h s w)) (all-refused t k n h ws (s + 1)),
 )
 
 -- ---- a monitor that fits its rule's table: its calls are accepted below 2^63, and refused with 24 from there on
-module _ (t : Tables) (m : Mon) where
-  late-call : (k : Monitor) → Ready t k m → (s w : ℕ) → 9223372036854775808 ≤ s → stepCall t k s w ≡ one.refuse 24 (k .memory)
-  unfolding stepCall
-  late-call k d s w h =
-      ap (λ (b : Bool). one.orRefuse b 1 (k .memory) (stepMon (ruleMon t) t k s w)) (d .lent)
-      ∙ ap (λ (o : Option Mon). stepMon o t k s w) (d .own)
-      ∙ ap₂ (λ (b c : Bool). one.orRefuse b 2 (k .memory) (one.orRefuse c 24 (k .memory) (accept m (k .memory) s w))) (d .fit) (le-ltb s 9223372036854775808 h)
+module _ (t : Tables) (m : Mon) (a : HoldsRule t m) where
+  late-call : (k : Monitor) → Ready k m → (s w : ℕ) → 9223372036854775808 ≤ s → stepCall t k s w ≡ one.refuse 24 (k .memory)
+  late-call k d s w h = ready-call t k m a d s w ∙ ap (λ (b : Bool). one.orRefuse b 24 (k .memory) (accept m (k .memory) s w)) (le-ltb s 9223372036854775808 h)
 
   data Called (k : Monitor) (s w : ℕ) : Type 0 where
-    taken : stepCall t k s w ≡ accept m (k .memory) s w → Ready t (with k (stepCall t k s w .memory)) m → Called k s w
+    taken : stepCall t k s w ≡ accept m (k .memory) s w → Ready (with k (stepCall t k s w .memory)) m → Called k s w
     too-late : stepCall t k s w ≡ one.refuse 24 (k .memory) → Called k s w
 
-  called : (k : Monitor) → Ready t k m → (s w : ℕ) → Called k s w
+  called : (k : Monitor) → Ready k m → (s w : ℕ) → Called k s w
   called k d s w = go (below-or s 9223372036854775808)
     where
       go : (s < 9223372036854775808) ⊎ (9223372036854775808 ≤ s) → Called k s w
-      go (inl h) = let x = stays-ready t k m d s w h in taken (x .accepted) (x .again)
+      go (inl h) = let x = stays-ready t k m a d s w h in taken (x .accepted) (x .again)
       go (inr h) = too-late (late-call k d s w h)
 
-  ready-on : (k : Monitor) → Ready t k m → (s w : ℕ) → Called k s w → Ready t (with k (stepCall t k s w .memory)) m
+  ready-on : (k : Monitor) → Ready k m → (s w : ℕ) → Called k s w → Ready (with k (stepCall t k s w .memory)) m
   ready-on k d s w (taken e r) = r
-  ready-on k d s w (too-late e) = subst (λ (c : Stepping). Ready t (with k (c .memory)) m) (sym e) d
+  ready-on k d s w (too-late e) = subst (λ (c : Stepping). Ready (with k (c .memory)) m) (sym e) d
 
-  pub all-accept : (ws : List ℕ) (k : Monitor) (s : ℕ) → Ready t k m → inTime s ws ≡ true → Each Accepts (answersOf t k s ws)
+  pub all-accept : (ws : List ℕ) (k : Monitor) (s : ℕ) → Ready k m → inTime s ws ≡ true → Each Accepts (answersOf t k s ws)
   unfolding Each answersOf inTime
   all-accept [] k s d h = tt
   all-accept (w ∷ ws) k s d h =
-      let (a, b) = both-true (ltb s 9223372036854775808) (inTime (s + 1) ws) h in
-      let x = stays-ready t k m d s w (ltb-true s 9223372036854775808 a) in
-      ((newlyFailed m (readMon m (k .memory) 0) s w, ap (λ (c : Stepping). c .answer) (x .accepted)), all-accept ws (with k (stepCall t k s w .memory)) (s + 1) (x .again) b)
+      let (now, later) = both-true (ltb s 9223372036854775808) (inTime (s + 1) ws) h in
+      let x = stays-ready t k m a d s w (ltb-true s 9223372036854775808 now) in
+      ((newlyFailed m (readMon m (k .memory) 0) s w, ap (λ (c : Stepping). c .answer) (x .accepted)), all-accept ws (with k (stepCall t k s w .memory)) (s + 1) (x .again) later)
 
-  only-late : (k : Monitor) (s w : ℕ) → Called k s w → (n : ℕ) → stepCall t k s w .answer ≡ Refused n → n ≡ 24
+  only-late : (k : Monitor) (s w : ℕ) → Called k s w → (n : ℕ) → stepCall t k s w .answer ≡ refused n → n ≡ 24
   only-late k s w (taken e r) n q =
-      let p : stepCall t k s w .answer ≡ Accepted (newlyFailed m (readMon m (k .memory) 0) s w) = ap (λ (c : Stepping). c .answer) e in
+      let p : stepCall t k s w .answer ≡ given (newlyFailed m (readMon m (k .memory) 0) s w) = ap (λ (c : Stepping). c .answer) e in
       let z : _≡_ {A = ℕ} 0 1 = cc in
       absurd (omega arith)
-  only-late k s w (too-late e) n q = let p : stepCall t k s w .answer ≡ Refused 24 = ap (λ (c : Stepping). c .answer) e in cc
+  only-late k s w (too-late e) n q = let p : stepCall t k s w .answer ≡ refused 24 = ap (λ (c : Stepping). c .answer) e in cc
 
-  pub each-late : (ws : List ℕ) (k : Monitor) (s : ℕ) → Ready t k m → Each (λ v. (n : ℕ) → v ≡ Refused n → n ≡ 24) (answersOf t k s ws)
+  pub each-late : (ws : List ℕ) (k : Monitor) (s : ℕ) → Ready k m → Each (λ v. (n : ℕ) → v ≡ refused n → n ≡ 24) (answersOf t k s ws)
   unfolding Each answersOf
   each-late [] k s d = tt
   each-late (w ∷ ws) k s d = (only-late k s w (called k d s w), each-late ws (with k (stepCall t k s w .memory)) (s + 1) (ready-on k d s w (called k d s w)))
 
-  late-or-rest : (k : Monitor) → Ready t k m → (s w : ℕ) (rest : Bool) (R : Type 0) → (rest ≡ false → R) → (ltb s 9223372036854775808 && rest) ≡ false → (stepCall t k s w .answer ≡ Refused 24) ⊎ R
+  late-or-rest : (k : Monitor) → Ready k m → (s w : ℕ) (rest : Bool) (R : Type 0) → (rest ≡ false → R) → (ltb s 9223372036854775808 && rest) ≡ false → (stepCall t k s w .answer ≡ refused 24) ⊎ R
   late-or-rest k d s w rest R f h = go (below-or s 9223372036854775808) (ltb s 9223372036854775808) refl h
     where
-      go : (s < 9223372036854775808) ⊎ (9223372036854775808 ≤ s) → (b : Bool) → ltb s 9223372036854775808 ≡ b → (b && rest) ≡ false → (stepCall t k s w .answer ≡ Refused 24) ⊎ R
+      go : (s < 9223372036854775808) ⊎ (9223372036854775808 ≤ s) → (b : Bool) → ltb s 9223372036854775808 ≡ b → (b && rest) ≡ false → (stepCall t k s w .answer ≡ refused 24) ⊎ R
       go (inr l) b e g = inl (ap (λ (c : Stepping). c .answer) (late-call k d s w l))
       go (inl l) true e g = inr (f g)
       go (inl l) false e g = true-false (lt-ltb s 9223372036854775808 l) e
 
-  pub some-late : (ws : List ℕ) (k : Monitor) (s : ℕ) → Ready t k m → inTime s ws ≡ false → Some (λ v. v ≡ Refused 24) (answersOf t k s ws)
+  pub some-late : (ws : List ℕ) (k : Monitor) (s : ℕ) → Ready k m → inTime s ws ≡ false → Some (λ v. v ≡ refused 24) (answersOf t k s ws)
   unfolding Some answersOf inTime
   some-late [] k s d h = true-false refl h
-  some-late (w ∷ ws) k s d h = late-or-rest k d s w (inTime (s + 1) ws) (Some (λ v. v ≡ Refused 24) (answersOf t (with k (stepCall t k s w .memory)) (s + 1) ws)) (λ e. some-late ws (with k (stepCall t k s w .memory)) (s + 1) (ready-on k d s w (called k d s w)) e) h
+  some-late (w ∷ ws) k s d h = late-or-rest k d s w (inTime (s + 1) ws) (Some (λ v. v ≡ refused 24) (answersOf t (with k (stepCall t k s w .memory)) (s + 1) ws)) (λ e. some-late ws (with k (stepCall t k s w .memory)) (s + 1) (ready-on k d s w (called k d s w)) e) h
 
   -- ---- a failed root stays so, and reports no more
   abbrev Marked : Memory → Type 0
   Marked mem = failed m (readMon m mem 0) ≡ true
 
-  taken-reads : (k : Monitor) → Ready t k m → (s w : ℕ) → stepCall t k s w ≡ accept m (k .memory) s w → readMon m (stepCall t k s w .memory) 0 ≡ step m (readMon m (k .memory) 0) s w .state
+  taken-reads : (k : Monitor) → Ready k m → (s w : ℕ) → stepCall t k s w ≡ accept m (k .memory) s w → readMon m (stepCall t k s w .memory) 0 ≡ step m (readMon m (k .memory) 0) s w .state
   taken-reads k d s w e =
       ap (λ (c : Stepping). readMon m (c .memory) 0) e
-      ∙ read-back m (step m (readMon m (k .memory) 0) s w .state) (k .memory) 0 (inside-own t k m d)
+      ∙ read-back m (step m (readMon m (k .memory) 0) s w .state) (k .memory) 0 (inside-own t k m a d)
 
-  marked-on : (k : Monitor) → Ready t k m → (s w : ℕ) → Called k s w → Marked (k .memory) → Marked (stepCall t k s w .memory)
+  marked-on : (k : Monitor) → Ready k m → (s w : ℕ) → Called k s w → Marked (k .memory) → Marked (stepCall t k s w .memory)
   marked-on k d s w (taken e r) f = ap (failed m) (taken-reads k d s w e) ∙ stays-marked m (readMon m (k .memory) 0) s w f
   marked-on k d s w (too-late e) f = subst (λ (c : Stepping). Marked (c .memory)) (sym e) f
 
-  marks : (k : Monitor) → Ready t k m → (s w : ℕ) → Called k s w → stepCall t k s w .answer ≡ Accepted true → Marked (stepCall t k s w .memory)
+  marks : (k : Monitor) → Ready k m → (s w : ℕ) → Called k s w → stepCall t k s w .answer ≡ given true → Marked (stepCall t k s w .memory)
   marks k d s w (taken e r) q =
-      let p : stepCall t k s w .answer ≡ Accepted (newlyFailed m (readMon m (k .memory) 0) s w) = ap (λ (c : Stepping). c .answer) e in
+      let p : stepCall t k s w .answer ≡ given (newlyFailed m (readMon m (k .memory) 0) s w) = ap (λ (c : Stepping). c .answer) e in
       let n : newlyFailed m (readMon m (k .memory) 0) s w ≡ true = cc in
       ap (failed m) (taken-reads k d s w e) ∙ both-true (failed m (step m (readMon m (k .memory) 0) s w .state)) _ n .0
   marks k d s w (too-late e) q =
-      let p : stepCall t k s w .answer ≡ Refused 24 = ap (λ (c : Stepping). c .answer) e in
+      let p : stepCall t k s w .answer ≡ refused 24 = ap (λ (c : Stepping). c .answer) e in
       let z : _≡_ {A = ℕ} 0 1 = cc in
       absurd (omega arith)
 
-  silent : (k : Monitor) → (s w : ℕ) → Called k s w → Marked (k .memory) → stepCall t k s w .answer ≡ Accepted true → ⊥
+  silent : (k : Monitor) → (s w : ℕ) → Called k s w → Marked (k .memory) → stepCall t k s w .answer ≡ given true → ⊥
   silent k s w (taken e r) f q =
-      let p : stepCall t k s w .answer ≡ Accepted (newlyFailed m (readMon m (k .memory) 0) s w) = ap (λ (c : Stepping). c .answer) e in
+      let p : stepCall t k s w .answer ≡ given (newlyFailed m (readMon m (k .memory) 0) s w) = ap (λ (c : Stepping). c .answer) e in
       let n : newlyFailed m (readMon m (k .memory) 0) s w ≡ true = cc in
       true-false n (reports-once m (readMon m (k .memory) 0) s w f)
   silent k s w (too-late e) f q =
-      let p : stepCall t k s w .answer ≡ Refused 24 = ap (λ (c : Stepping). c .answer) e in
+      let p : stepCall t k s w .answer ≡ refused 24 = ap (λ (c : Stepping). c .answer) e in
       let z : _≡_ {A = ℕ} 0 1 = cc in
       omega arith
 
-  quiet-on : (ws : List ℕ) (k : Monitor) (s : ℕ) → Ready t k m → Marked (k .memory) → Each (λ v. v ≡ Accepted true → ⊥) (answersOf t k s ws)
+  quiet-on : (ws : List ℕ) (k : Monitor) (s : ℕ) → Ready k m → Marked (k .memory) → Each (λ v. v ≡ given true → ⊥) (answersOf t k s ws)
   unfolding Each answersOf
   quiet-on [] k s d f = tt
   quiet-on (w ∷ ws) k s d f = (silent k s w (called k d s w) f, quiet-on ws (with k (stepCall t k s w .memory)) (s + 1) (ready-on k d s w (called k d s w)) (marked-on k d s w (called k d s w) f))
 
-  none-after : (k : Monitor) (s w : ℕ) (ws : List ℕ) → Ready t k m → stepCall t k s w .answer ≡ Accepted true → (i : ℕ) → ReportsAt (answersOf t (with k (stepCall t k s w .memory)) (s + 1) ws) i → ⊥
+  none-after : (k : Monitor) (s w : ℕ) (ws : List ℕ) → Ready k m → stepCall t k s w .answer ≡ given true → (i : ℕ) → ReportsAt (answersOf t (with k (stepCall t k s w .memory)) (s + 1) ws) i → ⊥
   none-after k s w ws d q = none-at _ (quiet-on ws (with k (stepCall t k s w .memory)) (s + 1) (ready-on k d s w (called k d s w)) (marks k d s w (called k d s w) q))
 
-  pub once : (ws : List ℕ) (k : Monitor) (s : ℕ) → Ready t k m → (i j : ℕ) → ReportsAt (answersOf t k s ws) i → ReportsAt (answersOf t k s ws) j → i ≡ j
+  pub once : (ws : List ℕ) (k : Monitor) (s : ℕ) → Ready k m → (i j : ℕ) → ReportsAt (answersOf t k s ws) i → ReportsAt (answersOf t k s ws) j → i ≡ j
   unfolding answersOf
   once [] k s d i j p q = let z : _≡_ {A = ℕ} 0 1 = cc in absurd (omega arith)
   once (w ∷ ws) k s d zero zero p q = refl
@@ -198,48 +190,48 @@ module _ (t : Tables) (m : Mon) where
   once (w ∷ ws) k s d (suc i) (suc j) p q = ap suc (once ws (with k (stepCall t k s w .memory)) (s + 1) (ready-on k d s w (called k d s w)) i j p q)
 
   -- a whole run below 2^63
-  pub ready-after : (ws : List ℕ) (k : Monitor) (s : ℕ) → Ready t k m → Ready t (with k (memoryAfter t k s ws)) m
+  pub ready-after : (ws : List ℕ) (k : Monitor) (s : ℕ) → Ready k m → Ready (with k (memoryAfter t k s ws)) m
   unfolding memoryAfter
   ready-after [] k s d = d
   ready-after (w ∷ ws) k s d = ready-after ws (with k (stepCall t k s w .memory)) (s + 1) (ready-on k d s w (called k d s w))
 
-  pub ready-runs : (ws : List ℕ) (k : Monitor) (s : ℕ) → Ready t k m → s + length ws ≤ 9223372036854775808 → runCall t k s ws ≡ manySteps t k s ws
+  pub ready-runs : (ws : List ℕ) (k : Monitor) (s : ℕ) → Ready k m → s + length ws ≤ 9223372036854775808 → runCall t k s ws ≡ manySteps t k s ws
   unfolding runCall
   ready-runs ws k s d h =
-      ap (λ (b : Bool). orRefuse b 1 (k .memory) (runMon (ruleMon t) t k s ws)) (d .lent)
-      ∙ ap (λ (o : Option Mon). runMon o t k s ws) (d .own)
+      ap (λ (b : Bool). orRefuse b 1 (k .memory) (runMon (ruleMon t) t k s ws)) (lent-both t k m a d)
+      ∙ ap (λ (o : Option Mon). runMon o t k s ws) (a .rule)
       ∙ ap₂ (λ (b c : Bool). orRefuse b 2 (k .memory) (orRefuse c 24 (k .memory) (manySteps t k s ws))) (d .fit) (below-in-time s ws h)
 
 -- ---- the three ways that a run goes
 pub data Case (t : Tables) (k : Monitor) (s : ℕ) (ws : List ℕ) (c : Running) : Type 0 where
   stops : (n : ℕ) → ((i w : ℕ) → stepCall t k i w ≡ one.refuse n (k .memory)) → c ≡ refuse n (k .memory) → Case t k s ws c
-  late : (m : Mon) → Ready t k m → inTime s ws ≡ false → c ≡ refuse 24 (k .memory) → Case t k s ws c
-  goes : (m : Mon) → Ready t k m → inTime s ws ≡ true → c ≡ manySteps t k s ws → Case t k s ws c
+  late : (m : Mon) → HoldsRule t m → Ready k m → inTime s ws ≡ false → c ≡ refuse 24 (k .memory) → Case t k s ws c
+  goes : (m : Mon) → HoldsRule t m → Ready k m → inTime s ws ≡ true → c ≡ manySteps t k s ws → Case t k s ws c
 
 pub case-of : (t : Tables) (k : Monitor) (s : ℕ) (ws : List ℕ) → Case t k s ws (runCall t k s ws)
 unfolding runCall stepCall
 case-of t k s ws = lent (isLent t k) refl
   where
-    timed : (m : Mon) → Ready t k m → (b : Bool) → inTime s ws ≡ b → Case t k s ws (orRefuse b 24 (k .memory) (manySteps t k s ws))
-    timed m d true e = goes m d e refl
-    timed m d false e = late m d e refl
+    timed : (m : Mon) → HoldsRule t m → Ready k m → (b : Bool) → inTime s ws ≡ b → Case t k s ws (orRefuse b 24 (k .memory) (manySteps t k s ws))
+    timed m a d true e = goes m a d e refl
+    timed m a d false e = late m a d e refl
 
-    fit : (m : Mon) → ruleMon t ≡ some m → isLent t k ≡ true → (b : Bool) → fits t k ≡ b → Case t k s ws (orRefuse b 2 (k .memory) (orRefuse (inTime s ws) 24 (k .memory) (manySteps t k s ws)))
-    fit m r l true e = timed m (record { own = r; lent = l; fit = e }) (inTime s ws) refl
+    fit : (m : Mon) → ruleMon t ≡ some m → isLent t k ≡ true → (b : Bool) → fits m k ≡ b → Case t k s ws (orRefuse b 2 (k .memory) (orRefuse (inTime s ws) 24 (k .memory) (manySteps t k s ws)))
+    fit m r l true e = let (x, y) = lent-parts t k l in timed m (record { rule = r; room = x }) (record { fit = e; room = y }) (inTime s ws) refl
     fit m r l false e =
         stops 2
-        (λ i w. ap (λ (b : Bool). one.orRefuse b 1 (k .memory) (stepMon (ruleMon t) t k i w)) l
-        ∙ ap (λ (o : Option Mon). stepMon o t k i w) r
+        (λ i w. ap (λ (b : Bool). one.orRefuse b 1 (k .memory) (stepMon (ruleMon t) k i w)) l
+        ∙ ap (λ (o : Option Mon). stepMon o k i w) r
         ∙ ap (λ (b : Bool). one.orRefuse b 2 (k .memory) (one.orRefuse (ltb i 9223372036854775808) 24 (k .memory) (accept m (k .memory) i w))) e)
         refl
 
     known : (o : Option Mon) → ruleMon t ≡ o → isLent t k ≡ true → Case t k s ws (runMon o t k s ws)
-    known none r l = stops 2 (λ i w. ap (λ (b : Bool). one.orRefuse b 1 (k .memory) (stepMon (ruleMon t) t k i w)) l ∙ ap (λ (o : Option Mon). stepMon o t k i w) r) refl
-    known (some m) r l = fit m r l (fits t k) refl
+    known none r l = stops 2 (λ i w. ap (λ (b : Bool). one.orRefuse b 1 (k .memory) (stepMon (ruleMon t) k i w)) l ∙ ap (λ (o : Option Mon). stepMon o k i w) r) refl
+    known (some m) r l = fit m r l (fits m k) refl
 
     lent : (b : Bool) → isLent t k ≡ b → Case t k s ws (orRefuse b 1 (k .memory) (runMon (ruleMon t) t k s ws))
     lent true l = known (ruleMon t) refl l
-    lent false l = stops 1 (λ i w. ap (λ (b : Bool). one.orRefuse b 1 (k .memory) (stepMon (ruleMon t) t k i w)) l) refl
+    lent false l = stops 1 (λ i w. ap (λ (b : Bool). one.orRefuse b 1 (k .memory) (stepMon (ruleMon t) k i w)) l) refl
 
 module _ (t : Tables) (k : Monitor) (s : ℕ) (ws : List ℕ) where
   abbrev run : Running
@@ -250,92 +242,95 @@ module _ (t : Tables) (k : Monitor) (s : ℕ) (ws : List ℕ) where
 
   pub taken-is : Case t k s ws run → Taken run → run ≡ manySteps t k s ws
   taken-is (stops n f e) h = absurd (h n (answer-is _ e))
-  taken-is (late m d i e) h = absurd (h 24 (answer-is _ e))
-  taken-is (goes m d i e) h = e
+  taken-is (late m a d i e) h = absurd (h 24 (answer-is _ e))
+  taken-is (goes m a d i e) h = e
 
   pub taken-accepts : Case t k s ws run → Taken run → Each Accepts (answersOf t k s ws)
   taken-accepts (stops n f e) h = absurd (h n (answer-is _ e))
-  taken-accepts (late m d i e) h = absurd (h 24 (answer-is _ e))
-  taken-accepts (goes m d i e) h = all-accept t m ws k s d i
+  taken-accepts (late m a d i e) h = absurd (h 24 (answer-is _ e))
+  taken-accepts (goes m a d i e) h = all-accept t m a ws k s d i
 
   pub goes-taken : run ≡ manySteps t k s ws → Taken run
-  goes-taken e n h = first-not-refused (answersOf t k s ws) s n (sym (answer-is _ e) ∙ h)
+  goes-taken e n h =
+      let p : run .answer ≡ given (firstReport s (answersOf t k s ws)) = answer-is _ e in
+      let z : _≡_ {A = ℕ} 0 1 = cc in
+      omega arith
 
-  pub untouched : Case t k s ws run → (n : ℕ) → run .answer ≡ NotRun n → run .memory ≡ k .memory
+  pub untouched : Case t k s ws run → (n : ℕ) → run .answer ≡ refused n → run .memory ≡ k .memory
   untouched (stops m f e) n h = ap (λ (c : Running). c .memory) e
-  untouched (late m d i e) n h = ap (λ (c : Running). c .memory) e
-  untouched (goes m d i e) n h = absurd (goes-taken e n h)
+  untouched (late m a d i e) n h = ap (λ (c : Running). c .memory) e
+  untouched (goes m a d i e) n h = absurd (goes-taken e n h)
 
   pub at-most-once : Case t k s ws run → (i j : ℕ) → ReportsAt (answersOf t k s ws) i → ReportsAt (answersOf t k s ws) j → i ≡ j
   at-most-once (stops n f e) i j p q = absurd (none-at _ (each-map (λ v r. λ z. let y : _≡_ {A = ℕ} 0 1 = cc in omega arith) _ (all-refused t k n f ws s)) i p)
-  at-most-once (late m d l e) i j p q = once t m ws k s d i j p q
-  at-most-once (goes m d l e) i j p q = once t m ws k s d i j p q
+  at-most-once (late m a d l e) i j p q = once t m a ws k s d i j p q
+  at-most-once (goes m a d l e) i j p q = once t m a ws k s d i j p q
 
-  reported-by : run ≡ manySteps t k s ws → Case t k s ws run → (i : ℕ) → run .answer ≡ Reported (s + i) → ReportsAt (answersOf t k s ws) i
+  reported-by : run ≡ manySteps t k s ws → Case t k s ws run → (i : ℕ) → run .answer ≡ given (some (s + i)) → ReportsAt (answersOf t k s ws) i
   reported-by e x i h =
-      let f = found (answersOf t k s ws) s (s + i) (sym (answer-is _ e) ∙ h) in
+      let f = found (answersOf t k s ws) s (s + i) (given-inj (sym (answer-is _ e) ∙ h)) in
       let z : f .at-word ≡ i = omega (arith, f .step-is) in
       subst (ReportsAt (answersOf t k s ws)) z (f .reports)
 
-  reports-by : run ≡ manySteps t k s ws → Case t k s ws run → (i : ℕ) → ReportsAt (answersOf t k s ws) i → run .answer ≡ Reported (s + i)
+  reports-by : run ≡ manySteps t k s ws → Case t k s ws run → (i : ℕ) → ReportsAt (answersOf t k s ws) i → run .answer ≡ given (some (s + i))
   reports-by e x i h =
       let (n, q) = finds (answersOf t k s ws) s i h in
       let f = found (answersOf t k s ws) s n q in
       let z : f .at-word ≡ i = at-most-once x (f .at-word) i (f .reports) h in
-      answer-is _ e ∙ q ∙ ap Reported (f .step-is ∙ ap (s +_) z)
+      answer-is _ e ∙ ap given (q ∙ ap some (f .step-is ∙ ap (s +_) z))
 
-  pub reported : Case t k s ws run → (i : ℕ) → (run .answer ≡ Reported (s + i)) ↔ (Taken run × ReportsAt (answersOf t k s ws) i)
+  pub reported : Case t k s ws run → (i : ℕ) → (run .answer ≡ given (some (s + i))) ↔ (Taken run × ReportsAt (answersOf t k s ws) i)
   reported x i = (
     λ h. let g : Taken run = λ n z. let y : _≡_ {A = ℕ} 0 1 = cc in omega arith in (g, reported-by (taken-is x g) x i h),
     λ (g, h). reports-by (taken-is x g) x i h,
   )
 
 module _ (t : Tables) (k : Monitor) (s w : ℕ) (ws : List ℕ) where
-  abbrev vs : List Verdict
+  abbrev vs : List (Result Bool)
   vs = answersOf t k s (w ∷ ws)
 
-  lowest-all : (n : ℕ) → Each (λ v. v ≡ Refused n) vs → Lowest n vs
+  lowest-all : (n : ℕ) → Each (λ v. v ≡ refused n) vs → Lowest n vs
   unfolding Each Some answersOf
   lowest-all n h = record { given = inl (h .0); least = each-map (λ v e m q. let z : n ≡ m = cc in omega arith) vs h }
 
-  pub refused : Case t k s (w ∷ ws) (runCall t k s (w ∷ ws)) → (n : ℕ) → (runCall t k s (w ∷ ws) .answer ≡ NotRun n) ↔ Lowest n vs
-  refused (stops a f e) n =
-      let r : runCall t k s (w ∷ ws) .answer ≡ NotRun a = ap (λ (c : Running). c .answer) e in
+  pub refused-where : Case t k s (w ∷ ws) (runCall t k s (w ∷ ws)) → (n : ℕ) → (runCall t k s (w ∷ ws) .answer ≡ refused n) ↔ Lowest n vs
+  refused-where (stops a f e) n =
+      let r : runCall t k s (w ∷ ws) .answer ≡ refused a = ap (λ (c : Running). c .answer) e in
       let g = all-refused t k a f (w ∷ ws) s in (
         λ h. let z : a ≡ n = cc in subst (λ (b : ℕ). Lowest b vs) z (lowest-all a g),
-        λ l. let (v, p, q) = meet {P = λ v. v ≡ Refused n} {Q = λ v. v ≡ Refused a} vs (l .given) g in let z : a ≡ n = cc in r ∙ ap NotRun z,
+        λ l. let (v, p, q) = meet {P = λ v. v ≡ refused n} {Q = λ v. v ≡ refused a} vs (l .given) g in let z : a ≡ n = cc in r ∙ ap refused z,
       )
-  refused (late m d i e) n =
-      let r : runCall t k s (w ∷ ws) .answer ≡ NotRun 24 = ap (λ (c : Running). c .answer) e in
-      let g = each-late t m (w ∷ ws) k s d in (
-        λ h. let z : 24 ≡ n = cc in subst (λ (b : ℕ). Lowest b vs) z (record { given = some-late t m (w ∷ ws) k s d i; least = each-map (λ v x b q. let y = x b q in omega arith) vs g }),
-        λ l. let (v, p, q) = meet {P = λ v. v ≡ Refused n} {Q = λ v. (b : ℕ) → v ≡ Refused b → b ≡ 24} vs (l .given) g in r ∙ ap NotRun (sym (q n p)),
+  refused-where (late m a d i e) n =
+      let r : runCall t k s (w ∷ ws) .answer ≡ refused 24 = ap (λ (c : Running). c .answer) e in
+      let g = each-late t m a (w ∷ ws) k s d in (
+        λ h. let z : 24 ≡ n = cc in subst (λ (b : ℕ). Lowest b vs) z (record { given = some-late t m a (w ∷ ws) k s d i; least = each-map (λ v x b q. let y = x b q in omega arith) vs g }),
+        λ l. let (v, p, q) = meet {P = λ v. v ≡ refused n} {Q = λ v. (b : ℕ) → v ≡ refused b → b ≡ 24} vs (l .given) g in r ∙ ap refused (sym (q n p)),
       )
-  refused (goes m d i e) n =
-      let g = all-accept t m (w ∷ ws) k s d i in (
+  refused-where (goes m a d i e) n =
+      let g = all-accept t m a (w ∷ ws) k s d i in (
         λ h. absurd (goes-taken t k s (w ∷ ws) e n h),
-        λ l. let (v, p, q) = meet {P = λ v. v ≡ Refused n} {Q = Accepts} vs (l .given) g in let (b, a) = q in let z : _≡_ {A = ℕ} 0 1 = cc in absurd (omega arith),
+        λ l. let (v, p, q) = meet {P = λ v. v ≡ refused n} {Q = Accepts} vs (l .given) g in let (b, a) = q in let z : _≡_ {A = ℕ} 0 1 = cc in absurd (omega arith),
       )
 
-  pub refused-first : Case t k s (w ∷ ws) (runCall t k s (w ∷ ws)) → (n : ℕ) → runCall t k s (w ∷ ws) .answer ≡ NotRun n → (stepCall t k s w .answer ≡ Refused n) ⊎ (n ≡ 24)
+  pub refused-first : Case t k s (w ∷ ws) (runCall t k s (w ∷ ws)) → (n : ℕ) → runCall t k s (w ∷ ws) .answer ≡ refused n → (stepCall t k s w .answer ≡ refused n) ⊎ (n ≡ 24)
   refused-first (stops a f e) n h =
-      let r : runCall t k s (w ∷ ws) .answer ≡ NotRun a = ap (λ (c : Running). c .answer) e in
+      let r : runCall t k s (w ∷ ws) .answer ≡ refused a = ap (λ (c : Running). c .answer) e in
       let z : a ≡ n = cc in
-      inl (ap (λ (c : Stepping). c .answer) (f s w) ∙ ap Refused z)
-  refused-first (late m d i e) n h =
-      let r : runCall t k s (w ∷ ws) .answer ≡ NotRun 24 = ap (λ (c : Running). c .answer) e in
+      inl (ap (λ (c : Stepping). c .answer) (f s w) ∙ ap refused z)
+  refused-first (late m a d i e) n h =
+      let r : runCall t k s (w ∷ ws) .answer ≡ refused 24 = ap (λ (c : Running). c .answer) e in
       inr (cc)
-  refused-first (goes m d i e) n h = absurd (goes-taken t k s (w ∷ ws) e n h)
+  refused-first (goes m a d i e) n h = absurd (goes-taken t k s (w ∷ ws) e n h)
 
 -- a run that is taken, and after which the monitor fits again
 pub record RunStays (t : Tables) (k : Monitor) (m : Mon) (s : ℕ) (ws : List ℕ) : Type 0 where
   pub taken : runCall t k s ws ≡ manySteps t k s ws
-  pub again : Ready t (with k (runCall t k s ws .memory)) m
+  pub again : Ready (with k (runCall t k s ws .memory)) m
 
-pub run-stays : (t : Tables) (k : Monitor) (m : Mon) (s : ℕ) (ws : List ℕ) → Ready t k m → s + length ws ≤ 9223372036854775808 → RunStays t k m s ws
-run-stays t k m s ws d h =
-    let e = ready-runs t m ws k s d h in
-    record { taken = e; again = subst (λ (c : Running). Ready t (with k (c .memory)) m) (sym e) (ready-after t m ws k s d) }
+pub run-stays : (t : Tables) (k : Monitor) (m : Mon) (s : ℕ) (ws : List ℕ) → HoldsRule t m → Ready k m → s + length ws ≤ 9223372036854775808 → RunStays t k m s ws
+run-stays t k m s ws a d h =
+    let e = ready-runs t m a ws k s d h in
+    record { taken = e; again = subst (λ (c : Running). Ready (with k (c .memory)) m) (sym e) (ready-after t m a ws k s d) }
 
 pub without-words : (t : Tables) (k : Monitor) (s other : ℕ) → runCall t k s [] ≡ runCall t k other []
 unfolding runCall inTime answersOf memoryAfter firstReport

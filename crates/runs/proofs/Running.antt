@@ -9,21 +9,23 @@ use native.Mathlib.Numerals.{add-one}
 use lib.Dec.{leb, ltb}
 use lib.ListN.{length, getD, drop}
 use lib.Seq.{drop-cons, drop-length}
-use borrow.Author.Tests.{eq-eqb, ne-eqb, lt-ltb, le-ltb, ltb-true, lt-leb, le-leb}
+use borrow.Author.Tests.{lt-ltb, le-ltb, ltb-true, lt-leb, le-leb}
 use Rattle.formula.specs.Table.{isSome}
 use Rattle.formula.proofs.Cases.{true-false}
 use Rattle.formula.proofs.Walks.{both-true}
+use Rattle.result.specs.Result.{Result, given, refused}
 use Rattle.monitor.specs.Mon.{Mon}
 use Rattle.stepping.specs.declared.call.Verdict.{Verdict}
 use Rattle.stepping.specs.declared.call.Verdict.the-variants.{Accepted, Refused}
-use Rattle.stepping.specs.Memory.{Memory}
-use Rattle.stepping.specs.Shape.{shapedFrom}
-use Rattle.stepping.specs.Call.{Tables, Monitor, Stepping, isLent, ruleMon, fits, acceptMon, acceptOf, stepCall, Known, Fit}
+use Rattle.node_step.specs.Memory.{Memory}
+use Rattle.lent.specs.Lent.{Tables, Monitor, isLent, ruleMon, fits, rowsFit, HoldsRule, Ready, Known}
+use Rattle.lent.proofs.Standings.{fits-by-table, known-ready, known-holds, lent-both}
+use Rattle.stepping.specs.Call.{Stepping, acceptMon, acceptOf, stepCall, Fit}
 use Rattle.stepping.specs.Call as one
-use Rattle.stepping.proofs.Staying.{Ready, Stays, stays-ready}
+use Rattle.stepping.proofs.Staying.{Stays, stays-ready}
 use Rattle.runs.specs.declared.RunVerdict.{RunVerdict}
 use Rattle.runs.specs.declared.RunVerdict.the-variants.{Quiet, Reported, Refused as NotRun}
-use Rattle.runs.specs.Run.{answersOf, memoryAfter, onReport, firstReport, Running, orRefuse, manySteps, inTime, runMon, runCall, Answers, RunFit, firstOf}
+use Rattle.runs.specs.Run.{resultOf, answersOf, memoryAfter, onReport, firstReport, Running, orRefuse, manySteps, inTime, runMon, runCall, Answers, RunFit, firstOf}
 
 -- ---- the steps below 2^63
 pub below-in-time : (s : ℕ) (ws : List ℕ) → s + length ws ≤ 9223372036854775808 → inTime s ws ≡ true
@@ -58,11 +60,17 @@ enough-steps s (w ∷ ws) h l = go (9223372036854775808 - s - length (w ∷ ws))
     go a (suc b) p q = lt-leb (length (w ∷ ws)) (9223372036854775808 - s) (omega arith) ∙ sym (past-late s w ws (omega arith))
 
 -- ---- the report of one call
-pub reports-here : (s : ℕ) (v : Verdict) (b : Bool) → v ≡ Accepted b → b ≡ true → Reported s ≡ onReport v (Reported s) Quiet
-reports-here s v b e h = sym (ap (λ (x : Verdict). onReport x (Reported s) Quiet) (e ∙ ap Accepted h))
+pub reports-here : (s : ℕ) (v : Verdict) (b : Bool) → v ≡ Accepted b → b ≡ true → Reported s ≡ onReport (one.resultOf v) (Reported s) Quiet
+reports-here s v b e h = sym (ap (λ (x : Verdict). onReport (one.resultOf x) (Reported s) Quiet) (e ∙ ap Accepted h))
 
 -- ---- the loop
-first-assoc : (s : ℕ) (v : Verdict) (r x : RunVerdict) → firstOf r (onReport v (Reported s) x) ≡ firstOf (firstOf r (onReport v (Reported s) Quiet)) x
+-- what is found so far, and else what is still found
+abbrev earliest : Result (Option ℕ) → Option ℕ → Result (Option ℕ)
+earliest (given none) x = given x
+earliest (given (some n)) x = given (some n)
+earliest (refused n) x = refused n
+
+first-assoc : (s : ℕ) (v : Verdict) (r : RunVerdict) (x : Option ℕ) → earliest (resultOf r) (onReport (one.resultOf v) (some s) x) ≡ earliest (resultOf (firstOf r (onReport (one.resultOf v) (Reported s) Quiet))) x
 first-assoc s (Accepted true) Quiet x = refl
 first-assoc s (Accepted true) (Reported n) x = refl
 first-assoc s (Accepted true) (NotRun n) x = refl
@@ -73,7 +81,7 @@ first-assoc s (Refused m) Quiet x = refl
 first-assoc s (Refused m) (Reported n) x = refl
 first-assoc s (Refused m) (NotRun n) x = refl
 
-first-quiet : (r : RunVerdict) → firstOf r Quiet ≡ r
+first-quiet : (r : RunVerdict) → earliest (resultOf r) none ≡ resultOf r
 first-quiet Quiet = refl
 first-quiet (Reported n) = refl
 first-quiet (NotRun n) = refl
@@ -93,17 +101,19 @@ module _ (t : Tables) (size : ℕ) (forms bounds : List ℕ) where
   pub record Along (mem₀ : Memory) (s : ℕ) (ws : List ℕ) (mem : Memory) (r : RunVerdict) (here i : ℕ) : Type 0 where
     pub mon : Mon
     pub bound : i ≤ length ws
-    pub ready : Ready t (monOf mem) mon
+    pub holds : HoldsRule t mon
+    pub ready : Ready (monOf mem) mon
     pub timely : inTime here (drop i ws) ≡ true
     pub leaves : memoryAfter t (monOf mem) here (drop i ws) ≡ memoryAfter t (monOf mem₀) s ws
-    pub answers : firstOf r (firstReport here (answersOf t (monOf mem) here (drop i ws))) ≡ firstReport s (answersOf t (monOf mem₀) s ws)
+    pub answers : earliest (resultOf r) (firstReport here (answersOf t (monOf mem) here (drop i ws))) ≡ given (firstReport s (answersOf t (monOf mem₀) s ws))
 
   module _ (mem₀ : Memory) (s : ℕ) (ws : List ℕ) where
     pub along-start : RunFit t (monOf mem₀) s ws → Along mem₀ s ws mem₀ Quiet s 0
     along-start d = record {
       mon = d .known .mon;
       bound = omega arith;
-      ready = record { own = d .known .is; lent = d .known .lent; fit = d .shaped };
+      holds = known-holds t (monOf mem₀) (d .known);
+      ready = known-ready t (monOf mem₀) (d .known) (d .shaped);
       timely = d .timely;
       leaves = refl;
       answers = refl;
@@ -116,7 +126,7 @@ module _ (t : Tables) (size : ℕ) (forms bounds : List ℕ) where
           let e : i ≡ length ws = omega arith in
           let z : drop i ws ≡ [] = ap (λ (j : ℕ). drop j ws) e ∙ drop-length ws in
           record {
-            answers = sym (first-quiet r) ∙ sym (ap (λ (l : List ℕ). firstOf r (firstReport here (answersOf t (monOf mem) here l))) z) ∙ d .answers;
+            answers = sym (first-quiet r) ∙ sym (ap (λ (l : List ℕ). earliest (resultOf r) (firstReport here (answersOf t (monOf mem) here l))) z) ∙ d .answers;
             leaves = sym (ap (memoryAfter t (monOf mem) here) z) ∙ d .leaves;
           }
 
@@ -132,58 +142,56 @@ module _ (t : Tables) (size : ℕ) (forms bounds : List ℕ) where
         along-below = ltb-true here 9223372036854775808 (timely-now .0)
 
         pub along-fit : Fit t (monOf mem) here
-        along-fit = record { known = record { mon = d .mon; is = d .ready .own; lent = d .ready .lent }; shaped = d .ready .fit; below = along-below }
+        along-fit = record { known = record { mon = d .mon; is = d .holds .rule; lent = lent-both t (monOf mem) (d .mon) (d .holds) (d .ready) }; shaped = d .ready .fit; below = along-below }
 
         module _ (v : Verdict) (mem′ : Memory) (a : one.Answers (acceptOf t (monOf mem) here (getD ws i 0)) v mem′) where
           stays : Stays t (monOf mem) (d .mon) here (getD ws i 0)
-          stays = stays-ready t (monOf mem) (d .mon) (d .ready) here (getD ws i 0) along-below
+          stays = stays-ready t (monOf mem) (d .mon) (d .holds) (d .ready) here (getD ws i 0) along-below
 
           -- the call of `step` is what was done
           same : stepCall t (monOf mem) here (getD ws i 0) ≡ acceptOf t (monOf mem) here (getD ws i 0)
-          same = stays .accepted ∙ sym (ap (λ (o : Option Mon). acceptMon o mem here (getD ws i 0)) (d .ready .own))
+          same = stays .accepted ∙ sym (ap (λ (o : Option Mon). acceptMon o mem here (getD ws i 0)) (d .holds .rule))
 
           to-memory : stepCall t (monOf mem) here (getD ws i 0) .memory ≡ mem′
           to-memory = ap (λ (c : Stepping). c .memory) same ∙ sym (a .leaves)
 
-          to-answer : stepCall t (monOf mem) here (getD ws i 0) .answer ≡ v
+          to-answer : stepCall t (monOf mem) here (getD ws i 0) .answer ≡ one.resultOf v
           to-answer = ap (λ (c : Stepping). c .answer) same ∙ sym (a .answers)
 
-          pub along-next : (x r′ : RunVerdict) → x ≡ onReport v (Reported here) Quiet → r′ ≡ firstOf r x → Along mem₀ s ws mem′ r′ (here + 1) (i + 1)
+          pub along-next : (x r′ : RunVerdict) → x ≡ onReport (one.resultOf v) (Reported here) Quiet → r′ ≡ firstOf r x → Along mem₀ s ws mem′ r′ (here + 1) (i + 1)
           unfolding memoryAfter answersOf firstReport
           along-next x r′ p q = record {
             mon = d .mon;
             bound = omega arith;
-            ready = subst (λ (y : Memory). Ready t (monOf y) (d .mon)) to-memory (stays .again);
+            holds = d .holds;
+            ready = subst (λ (y : Memory). Ready (monOf y) (d .mon)) to-memory (stays .again);
             timely = timely-now .1;
             leaves =
                 ap (λ (y : Memory). memoryAfter t (monOf y) (here + 1) (drop (i + 1) ws)) (sym to-memory)
                 ∙ sym (ap (memoryAfter t (monOf mem) here) rest)
                 ∙ d .leaves;
             answers =
-                ap (λ (y : RunVerdict). firstOf y (firstReport (here + 1) (answersOf t (monOf mem′) (here + 1) (drop (i + 1) ws)))) (q ∙ ap (firstOf r) p)
+                ap (λ (y : RunVerdict). earliest (resultOf y) (firstReport (here + 1) (answersOf t (monOf mem′) (here + 1) (drop (i + 1) ws)))) (q ∙ ap (firstOf r) p)
                 ∙ sym (first-assoc here v r (firstReport (here + 1) (answersOf t (monOf mem′) (here + 1) (drop (i + 1) ws))))
-                ∙ ap₂ (λ (z : Verdict) (y : Memory). firstOf r (onReport z (Reported here) (firstReport (here + 1) (answersOf t (monOf y) (here + 1) (drop (i + 1) ws))))) (sym to-answer) (sym to-memory)
-                ∙ sym (ap (λ (l : List ℕ). firstOf r (firstReport here (answersOf t (monOf mem) here l))) rest)
+                ∙ ap₂ (λ (z : Result Bool) (y : Memory). earliest (resultOf r) (onReport z (some here) (firstReport (here + 1) (answersOf t (monOf y) (here + 1) (drop (i + 1) ws))))) (sym to-answer) (sym to-memory)
+                ∙ sym (ap (λ (l : List ℕ). earliest (resultOf r) (firstReport here (answersOf t (monOf mem) here l))) rest)
                 ∙ d .answers;
           }
 
 -- ---- the tests in their order
 module _ (t : Tables) (k : Monitor) (d : Known t k) (s : ℕ) (ws : List ℕ) where
-  by-rule : runMon (ruleMon t) t k s ws ≡ orRefuse (fits t k) 2 (k .memory) (orRefuse (inTime s ws) 24 (k .memory) (manySteps t k s ws))
+  by-rule : runMon (ruleMon t) t k s ws ≡ orRefuse (fits (d .mon) k) 2 (k .memory) (orRefuse (inTime s ws) 24 (k .memory) (manySteps t k s ws))
   by-rule = ap (λ (o : Option Mon). runMon o t k s ws) (d .is)
 
   refused-by : (b : Bool) (n : ℕ) (c : Running) → b ≡ false → Answers (orRefuse b n (k .memory) c) (NotRun n) (k .memory)
   refused-by b n c q = subst (λ (x : Bool). Answers (orRefuse x n (k .memory) c) (NotRun n) (k .memory)) (sym q) (record { answers = refl; leaves = refl })
 
-  pub other-size : (k .size ≡ t .ncount → ⊥) → Answers (runMon (ruleMon t) t k s ws) (NotRun 2) (k .memory)
-  other-size h = subst (λ (c : Running). Answers c (NotRun 2) (k .memory)) (sym by-rule) (refused-by (fits t k) 2 _ (ap (λ (b : Bool). b && shapedFrom (t .nodes) (t .nfirst) (k .forms) (k .bounds) (k .memory) 0 (t .ncount)) (ne-eqb (k .size) (t .ncount) h)))
+  module _ (b : Bool) (e : b ≡ rowsFit (t .nodes) (t .nfirst) (t .ncount) k) where
+    fits-is : fits (d .mon) k ≡ b
+    fits-is = fits-by-table t k (d .mon) (d .is) ∙ sym e
 
-  module _ (h : k .size ≡ t .ncount) (b : Bool) (e : b ≡ shapedFrom (t .nodes) (t .nfirst) (k .forms) (k .bounds) (k .memory) 0 (t .ncount)) where
-    fits-is : fits t k ≡ b
-    fits-is = ap₂ _&&_ (eq-eqb (k .size) (t .ncount) h) (sym e)
-
-    pub not-shaped : b ≡ false → Answers (runMon (ruleMon t) t k s ws) (NotRun 2) (k .memory)
-    not-shaped q = subst (λ (c : Running). Answers c (NotRun 2) (k .memory)) (sym by-rule) (refused-by (fits t k) 2 _ (fits-is ∙ q))
+    pub not-fit : b ≡ false → Answers (runMon (ruleMon t) t k s ws) (NotRun 2) (k .memory)
+    not-fit q = subst (λ (c : Running). Answers c (NotRun 2) (k .memory)) (sym by-rule) (refused-by (fits (d .mon) k) 2 _ (fits-is ∙ q))
 
     module _ (q : b ≡ true) (c : Bool) (p : c ≡ inTime s ws) where
       fitting : runMon (ruleMon t) t k s ws ≡ orRefuse c 24 (k .memory) (manySteps t k s ws)

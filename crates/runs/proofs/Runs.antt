@@ -6,18 +6,18 @@
 --     refused-untouched  a refused run leaves the monitor as it was
 --     reports-once       at most one of the calls reports, so the first report is the only one
 --     reported-iff       a run reports a step exactly where it is taken and the call at that step reports
---     fits-again         a monitor that fits its rule's table is run where each step is below 2^63, and fits it again afterwards
+--     fits-again         over tables that hold its rule a ready monitor is run where each step is below 2^63, and is ready again afterwards
 --     no-words           a run of no words is handed no step
 use mathlib.Core.Path.{_≡_}
 use mathlib.Core.List.{List, [], _∷_}
 use mathlib.Core.Logic.{_⊎_, _↔_}
+use mathlib.Core.Option.{some}
 use Prim.Native.Nat.{ℕ, _+_, _≤_}
 use lib.ListN.{length}
 use Rattle.monitor.specs.Mon.{Mon}
-use Rattle.stepping.specs.declared.call.Verdict.the-variants.{Refused}
-use Rattle.stepping.specs.Call.{Tables, Monitor, stepCall}
-use Rattle.stepping.proofs.Staying.{Ready}
-use Rattle.runs.specs.declared.RunVerdict.the-variants.{Reported, Refused as NotRun}
+use Rattle.result.specs.Result.{given, refused}
+use Rattle.lent.specs.Lent.{Tables, Monitor, HoldsRule, Ready}
+use Rattle.stepping.specs.Call.{stepCall}
 use Rattle.runs.specs.Run.{answersOf, manySteps, runCall, Taken, Accepts, Each, Lowest, ReportsAt}
 use Rattle.runs.proofs.Calls as calls
 use Rattle.runs.proofs.Calls.{RunStays, case-of}
@@ -29,24 +29,24 @@ module _ (t : Tables) (k : Monitor) (s : ℕ) (ws : List ℕ) where
   pub all-accepted : Taken (runCall t k s ws) → Each Accepts (answersOf t k s ws)
   all-accepted h = calls.taken-accepts t k s ws (case-of t k s ws) h
 
-  pub refused-untouched : (n : ℕ) → runCall t k s ws .answer ≡ NotRun n → runCall t k s ws .memory ≡ k .memory
+  pub refused-untouched : (n : ℕ) → runCall t k s ws .answer ≡ refused n → runCall t k s ws .memory ≡ k .memory
   refused-untouched n h = calls.untouched t k s ws (case-of t k s ws) n h
 
   pub reports-once : (i j : ℕ) → ReportsAt (answersOf t k s ws) i → ReportsAt (answersOf t k s ws) j → i ≡ j
   reports-once i j p q = calls.at-most-once t k s ws (case-of t k s ws) i j p q
 
-  pub reported-iff : (i : ℕ) → (runCall t k s ws .answer ≡ Reported (s + i)) ↔ (Taken (runCall t k s ws) × ReportsAt (answersOf t k s ws) i)
+  pub reported-iff : (i : ℕ) → (runCall t k s ws .answer ≡ given (some (s + i))) ↔ (Taken (runCall t k s ws) × ReportsAt (answersOf t k s ws) i)
   reported-iff i = calls.reported t k s ws (case-of t k s ws) i
 
-  pub fits-again : (m : Mon) → Ready t k m → s + length ws ≤ 9223372036854775808 → RunStays t k m s ws
-  fits-again m d h = calls.run-stays t k m s ws d h
+  pub fits-again : (m : Mon) → HoldsRule t m → Ready k m → s + length ws ≤ 9223372036854775808 → RunStays t k m s ws
+  fits-again m a d h = calls.run-stays t k m s ws a d h
 
 pub no-words : (t : Tables) (k : Monitor) (s other : ℕ) → runCall t k s [] ≡ runCall t k other []
 no-words t k s other = calls.without-words t k s other
 
 module _ (t : Tables) (k : Monitor) (s w : ℕ) (ws : List ℕ) where
-  pub refused-iff : (n : ℕ) → (runCall t k s (w ∷ ws) .answer ≡ NotRun n) ↔ Lowest n (answersOf t k s (w ∷ ws))
-  refused-iff n = calls.refused t k s w ws (case-of t k s (w ∷ ws)) n
+  pub refused-iff : (n : ℕ) → (runCall t k s (w ∷ ws) .answer ≡ refused n) ↔ Lowest n (answersOf t k s (w ∷ ws))
+  refused-iff n = calls.refused-where t k s w ws (case-of t k s (w ∷ ws)) n
 
-  pub refused-by : (n : ℕ) → runCall t k s (w ∷ ws) .answer ≡ NotRun n → (stepCall t k s w .answer ≡ Refused n) ⊎ (n ≡ 24)
+  pub refused-by : (n : ℕ) → runCall t k s (w ∷ ws) .answer ≡ refused n → (stepCall t k s w .answer ≡ refused n) ⊎ (n ≡ 24)
   refused-by n h = calls.refused-first t k s w ws (case-of t k s (w ∷ ws)) n h

@@ -1,11 +1,12 @@
 // Many words in one call: what is lent is tested once, then the monitor is stepped in place for each word.
+use lent::room::is_lent;
+use lent::shape::is_fit;
 use monitor::table::is_compiled;
 use stepping::call::Verdict;
-use stepping::call::is_lent;
-use stepping::call::is_shaped;
 use stepping::call::step_fit;
 ghost use mathlib.Core.Path.{_≡_};
-ghost use Rattle.stepping.specs.Call.{Known, ruleMon};
+ghost use Rattle.lent.specs.Lent.{Known, ruleMon};
+ghost use Rattle.stepping.specs.Call.{resultOf};
 ghost use Rattle.runs.specs.Run.{Answers, RunFit, firstOf, inTime, manySteps, onReport, runCall, runMon};
 
 // No word was reported; or the step of the first that was; or the refusal of the whole run.
@@ -30,7 +31,7 @@ fn in_time(s: u64, words: &[u64]) -> bool
 
 // The report at s.
 fn report_at(v: Verdict, s: u64) -> RunVerdict
-    ensures { λ r. ⌜ r ≡ onReport v (RunVerdict.Reported s) RunVerdict.Quiet ⌝ }
+    ensures { λ r. ⌜ r ≡ onReport (resultOf v) (RunVerdict.Reported s) RunVerdict.Quiet ⌝ }
 {
     let Verdict::Accepted(b) = v else {
         return RunVerdict::Quiet;
@@ -125,40 +126,39 @@ fn run_compiled(
     requires { ⌜ Known (record { ops = now ops; nums = now nums; first = first; count = count; nodes = now nodes; nfirst = nfirst; ncount = ncount }) (record { size = size; forms = now forms; bounds = now bounds; memory = record { held = now held; remaining = now remaining; failed = now failed; culprits = now culprits } }) ⌝ }
     ensures { λ r. ⌜ Answers (runMon (ruleMon (record { ops = now (ops .entry); nums = now (nums .entry); first = first; count = count; nodes = now (nodes .entry); nfirst = nfirst; ncount = ncount })) (record { ops = now (ops .entry); nums = now (nums .entry); first = first; count = count; nodes = now (nodes .entry); nfirst = nfirst; ncount = ncount }) (record { size = size; forms = now (forms .entry); bounds = now (bounds .entry); memory = record { held = now (held .entry); remaining = now (remaining .entry); failed = now (failed .entry); culprits = now (culprits .entry) } }) s (now (words .entry))) r (record { held = now (held .exit); remaining = now (remaining .exit); failed = now (failed .exit); culprits = now (culprits .exit) }) ⌝ }
 {
-    if size == ncount {
-        if is_shaped(
-            nodes,
-            nfirst,
-            forms,
-            bounds,
-            held,
-            remaining,
-            failed,
-            culprits,
-            ncount,
-        ) {
-            if in_time(s, words) {
-                return run_fit(
-                    ops,
-                    nums,
-                    first,
-                    count,
-                    nodes,
-                    nfirst,
-                    ncount,
-                    size,
-                    forms,
-                    bounds,
-                    held,
-                    remaining,
-                    failed,
-                    culprits,
-                    s,
-                    words,
-                );
-            }
-            return RunVerdict::Refused(24);
+    if is_fit(
+        nodes,
+        nfirst,
+        ncount,
+        size,
+        forms,
+        bounds,
+        held,
+        remaining,
+        failed,
+        culprits,
+    ) {
+        if in_time(s, words) {
+            return run_fit(
+                ops,
+                nums,
+                first,
+                count,
+                nodes,
+                nfirst,
+                ncount,
+                size,
+                forms,
+                bounds,
+                held,
+                remaining,
+                failed,
+                culprits,
+                s,
+                words,
+            );
         }
+        return RunVerdict::Refused(24);
     }
     RunVerdict::Refused(2)
 }

@@ -9,13 +9,14 @@ use borrow.Author.Tests.{le-leb, lt-leb}
 use lib.Dec.{leb}
 use lib.ListN.{length}
 use lib.Seq.{sets}
+use Rattle.result.specs.Result.{Result, given, refused as no-result}
 use Rattle.formula.specs.Tree.{size}
 use Rattle.formula.specs.Formula.{Formula}
 use Rattle.formula.specs.Table.{Rule, Placed, ruleOf, isSome, roomy}
 use Rattle.formula.proofs.Cases.{true-false}
 use Rattle.formula.proofs.Rules.{rule-inv}
 use Rattle.liveness.specs.Split.{live, faults, skeletonOf, obligationsOf, owes, Answer, refused, parts, firstOr, property, splitOf}
-use Rattle.split.specs.Held.{entries, skeletonCells, owedCells, Outcome, outcome, held, roomySplit, ofRule, unlessShort, splitting, Ready, Laid, Decomposed}
+use Rattle.split.specs.Held.{entries, skeletonCells, owedCells, Split, no-split, split, resultOf, Outcome, outcome, held, roomySplit, ofRule, unlessShort, splitting, Ready, Laid, Decomposed}
 use Rattle.liveness.specs.Judge.{Lives, topOf, Judged}
 use Rattle.split.specs.declared.parts.Liveness.{Liveness}
 use Rattle.split.specs.declared.parts.Liveness.the-variants.{None, Parts, Refused}
@@ -23,6 +24,20 @@ use Rattle.liveness.specs.declared.walk.Top.{Top}
 use Rattle.liveness.specs.declared.walk.Top.the-variants.{Upto, Fault}
 use Rattle.split.specs.declared.parts.Filled.{Filled}
 use Rattle.liveness.proofs.Judges.{top-upto}
+
+-- answers with one result are one
+abbrev back : Result Split → Liveness
+back (given no-split) = None
+back (given (split n k)) = Parts n k
+back (no-result n) = Refused n
+
+back-is : (r : Liveness) → back (resultOf r) ≡ r
+back-is None = refl
+back-is (Parts n k) = refl
+back-is (Refused n) = refl
+
+pub result-inj : (a b : Liveness) → resultOf a ≡ resultOf b → a ≡ b
+result-inj a b e = sym (back-is a) ∙ ap back e ∙ back-is b
 
 fault-inj : {m n : ℕ} → Fault m ≡ Fault n → m ≡ n
 fault-inj h = cc

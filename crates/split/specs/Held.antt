@@ -2,7 +2,8 @@
 --     skeleton    two numbers an entry, in prefix order: 0 and the place of a safety leaf; 1 and the number of an obligation; for a word its
 --                 number in a formula table (3 not, 9 and, 10 or, 11 implies) and 0
 --     owed        three numbers an obligation: 0 and a place for `eventually`, 1 and two places for `until`
---     splitting   the answer for what is lent, with refusals 1 and 2
+--     resultOf    document 01's result of the answer enum
+--     splitting   the result for what is lent, with refusals 1 and 2, and both slices afterwards
 use mathlib.Core.Path.{_≡_}
 use mathlib.Core.Bool.{Bool, true, false, _&&_, not}
 use mathlib.Core.List.{List, [], _∷_, _++_}
@@ -11,6 +12,7 @@ use Prim.Native.Nat.{ℕ, _+_, _*_, _≤_}
 use lib.Dec.{leb}
 use lib.ListN.{length}
 use lib.Seq.{sets}
+use Rattle.result.specs.Result.{Result, given, refused as no-result}
 use Rattle.formula.specs.Tree.{size}
 use Rattle.formula.specs.Spells.{Spells}
 use Rattle.formula.specs.Formula.{Formula}
@@ -45,15 +47,30 @@ unfoldable pub owedCells : List Obligation → List ℕ
 owedCells [] = []
 owedCells (o ∷ os) = obligationCells o ++ owedCells os
 
--- ---- the entry point: the enum's value and the lent slices afterwards
-pub data Outcome : Type 0 where
-  outcome : Liveness → List ℕ → List ℕ → Outcome
+-- ---- the entry point: document 01's result and the lent slices afterwards
+-- what is given: that no split is asked for, or how many entries and obligations the split has
+pub data Split : Type 0 where
+  no-split : Split
+  split : ℕ → ℕ → Split
 
--- document 01's answer in the enum and the two slices: only a split is written, from the slices' first place on
+-- document 01's result of an answer
+abbrev pub resultOf : Liveness → Result Split
+resultOf None = given no-split
+resultOf (Parts n k) = given (split n k)
+resultOf (Refused n) = no-result n
+
+pub data Outcome : Type 0 where
+  settled : Result Split → List ℕ → List ℕ → Outcome
+
+-- an answer's result, and the slices
+abbrev pub outcome : Liveness → List ℕ → List ℕ → Outcome
+outcome r s o = settled (resultOf r) s o
+
+-- document 01's answer as a result and the two slices: only a split is written, from the slices' first place on
 abbrev pub held : Answer → List ℕ → List ℕ → Outcome
-held no-parts s o = outcome None s o
-held (refused n) s o = outcome (Refused n) s o
-held (parts sk os) s o = outcome (Parts (entries sk) (length os)) (sets s 0 (skeletonCells sk)) (sets o 0 (owedCells os))
+held no-parts s o = settled (given no-split) s o
+held (refused n) s o = settled (no-result n) s o
+held (parts sk os) s o = settled (given (split (entries sk) (length os))) (sets s 0 (skeletonCells sk)) (sets o 0 (owedCells os))
 
 -- refusal 1: the formula table has 1,024 nodes, and each output room for 256 entries
 abbrev pub roomySplit : List ℕ → List ℕ → List ℕ → List ℕ → Bool

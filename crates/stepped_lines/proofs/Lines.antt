@@ -8,7 +8,7 @@ use native.Mathlib.Numerals.{add-one}
 use lib.IntN.{ℤ}
 use lib.ListN.{length, getD, length-append}
 use Rattle.meaning.specs.State.{State}
-use Rattle.stepping.specs.Memory.{Memory}
+use Rattle.node_step.specs.Memory.{Memory}
 use Rattle.text.specs.Tape.{Tape, Wrote}
 use Rattle.text.proofs.Tapes.{as-text, then, nothing}
 use Rattle.rules.specs.Rules.{Rule, mon}

@@ -4,19 +4,21 @@ use mathlib.Core.List.{List, [], _∷_, _++_, append-assoc}
 use Prim.Native.Nat.{ℕ, _+_, _*_, _≤_}
 use native.Mathlib.Omega.{arith}
 use lib.ListN.{length, length-append}
-use Rattle.stepping.specs.Memory.{Memory}
+use Rattle.node_step.specs.Memory.{Memory}
 use Rattle.text.specs.Tape.{Tape, Wrote}
 use Rattle.text.proofs.Tapes.{as-text, then, nothing}
 use Rattle.rules.specs.Rules.{Rule}
 use Rattle.book.specs.Book.{StepLine}
-use Rattle.reader.specs.Steps.{stepsFrom, Hands}
+use Rattle.result.specs.Result.{given}
+use Rattle.reader.specs.Steps.{nextStep, resultOf, stepsFrom}
 use Rattle.reader.specs.declared.steps.StepRead.{StepRead}
 use Rattle.reader.specs.declared.steps.StepRead.the-variants.{Step, End}
 use Rattle.listing_text.specs.Listing.{States, nextStates, Report, reportsAt, reports, reportLines}
 use Rattle.stepped_lines.specs.Holding.{Rows, Holding}
 use Rattle.stepped_lines.specs.Stepped.{lineOf, LineDue, LineStepped, lastStates, LinesDue, LinesStepped}
 use Rattle.stepped_lines.proofs.Lines.{lines-append}
-use Rattle.stepped_lines.proofs.Steps.{from-few, none-left, one-more, step-low, fewer}
+use Rattle.reader.proofs.StepsOfBook.{none-left, one-more}
+use Rattle.stepped_lines.proofs.Steps.{from-few, step-low, fewer}
 
 -- the states at the cursor, and the reports before it
 pub record Part (text : List ℕ) (from : ℕ) (nfirsts : List ℕ) (R : ℕ → Rule) (n : ℕ) (st : States R) (before : Tape) (cursor : ℕ) (mem : Memory) (after : Tape) (written : ℕ) : Type 0 where
@@ -41,7 +43,7 @@ module _ (text : List ℕ) (from : ℕ) (ops nums nodes nfirsts refusals : List 
     part = λ R st u v. record { states = st; past = []; holding = v; all = refl; last = refl; wrote = nothing a; counted = refl };
   }
 
-  module _ (cursor : ℕ) (mem′ : Memory) (b : Tape) (written : ℕ) (g : Ran text from ops nums nodes nfirsts refusals n mem a cursor mem′ b written) (read : StepRead) (h : Hands text cursor read) where
+  module _ (cursor : ℕ) (mem′ : Memory) (b : Tape) (written : ℕ) (g : Ran text from ops nums nodes nfirsts refusals n mem a cursor mem′ b written) (read : StepRead) (h : resultOf read ≡ given (nextStep text cursor)) where
     pub ran-end : read ≡ End → LinesStepped text from ops nums nodes nfirsts refusals n mem a mem′ b written
     unfolding reports lastStates
     ran-end e = record {

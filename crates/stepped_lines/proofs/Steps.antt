@@ -10,15 +10,18 @@ use borrow.Author.Tests.{ltb-true}
 use Rattle.number.specs.Number.{pick, decimalOf, hexOf}
 use Rattle.number.specs.declared.Number.{Number}
 use Rattle.number.specs.declared.Number.the-variants.{Value, Wrong}
-use Rattle.line.specs.Text.{onto, parts, lines, fields}
+use Rattle.line.specs.Text.{lines, fields}
+use Rattle.line.proofs.Parts.{lines-few}
 use Rattle.line.specs.Word.{wordOf, fieldCount}
 use Rattle.line.specs.declared.word.Word.{Word}
 use Rattle.line.specs.declared.word.Word.the-variants as word
 use Rattle.line.specs.Line.{Line, bad, rule, wrong-rule, node, wrong-node, step, wrong-step, ruleKind, ruleLine, atomLine, boundLine, stepLine, content, ofFields, parse}
 use Rattle.book.specs.Book.{StepLine}
-use Rattle.reader.specs.Steps.{before, stepsOf, stepsFrom, handed, Hands}
+use Rattle.result.specs.Result.{given}
+use Rattle.reader.specs.Steps.{asStep, nextStep, resultOf, before, stepsOf, stepsFrom}
 use Rattle.reader.specs.declared.steps.StepRead.{StepRead}
-use Rattle.reader.specs.declared.steps.StepRead.the-variants.{Step, End}
+use Rattle.reader.specs.declared.steps.StepRead.the-variants.{Step}
+use Rattle.reader.proofs.StepsOfBook.{one-more}
 
 -- ---- a step line's number
 abbrev Low : Line → Type 0
@@ -72,7 +75,7 @@ abbrev Below : List StepLine → Type 0
 Below [] = Unit {0}
 Below (x ∷ xs) = x .number < 9223372036854775808
 
-before-below : (x : Line) (r : List StepLine) → Low x → Below (before x r)
+before-below : (x : Line) (r : List StepLine) → Low x → Below (before (asStep x) r)
 before-below bad r h = tt
 before-below (rule l k) r h = tt
 before-below wrong-rule r h = tt
@@ -86,7 +89,7 @@ unfolding stepsOf
 steps-below [] = tt
 steps-below (l ∷ ls) = before-below (parse l) (stepsOf ls) (parse-low l)
 
-before-few : (x : Line) (r : List StepLine) → length (before x r) ≤ suc (length r)
+before-few : (x : Line) (r : List StepLine) → length (before (asStep x) r) ≤ suc (length r)
 before-few bad r = omega arith
 before-few (rule l k) r = omega arith
 before-few wrong-rule r = omega arith
@@ -100,36 +103,15 @@ unfolding stepsOf
 steps-few [] = omega arith
 steps-few (l ∷ ls) = omega (arith, before-few (parse l) (stepsOf ls), steps-few ls)
 
-onto-few : (b : ℕ) (ps : List (List ℕ)) → length (onto b ps) ≤ suc (length ps)
-unfolding onto
-onto-few b [] = omega arith
-onto-few b (p ∷ ps) = omega arith
-
-part-few : (b : ℕ) (ps : List (List ℕ)) (n : ℕ) (t : Bool) → length ps ≤ n → length (pick t ([] ∷ ps) (onto b ps)) ≤ suc n
-part-few b ps n true h = omega arith
-part-few b ps n false h = omega (arith, onto-few b ps)
-
-lines-few : (l : List ℕ) → length (lines l) ≤ length l
-unfolding parts
-lines-few [] = omega arith
-lines-few (b ∷ l) = part-few b (parts 10 [] l) (length l) (eqb b 10) (lines-few l)
-
 -- ---- the cursor
 pub from-few : (text : List ℕ) (at : ℕ) → length (stepsFrom text at) ≤ length text
 unfolding stepsFrom
 from-few text at = omega (arith, steps-few (lines (drop at text)), lines-few (drop at text), length-drop at text)
 
-module _ (text : List ℕ) (at : ℕ) (r : StepRead) (h : Hands text at r) where
-  pub none-left : r ≡ End → stepsFrom text at ≡ []
-  none-left e = h .is ∙ ap (handed text) e
+module _ (text : List ℕ) (at : ℕ) (r : StepRead) (h : resultOf r ≡ given (nextStep text at)) (s w next : ℕ) (e : r ≡ Step s w next) where
+  pub step-low : s < 9223372036854775808
+  unfolding stepsFrom
+  step-low = subst Below (one-more text at r h s w next e) (steps-below (lines (drop at text)))
 
-  module _ (s w next : ℕ) (e : r ≡ Step s w next) where
-    pub one-more : stepsFrom text at ≡ record { number = s; truths = w } ∷ stepsFrom text next
-    one-more = h .is ∙ ap (handed text) e
-
-    pub step-low : s < 9223372036854775808
-    unfolding stepsFrom
-    step-low = subst Below one-more (steps-below (lines (drop at text)))
-
-    pub fewer : length (stepsFrom text next) < length (stepsFrom text at)
-    fewer = omega (arith, ap length one-more)
+  pub fewer : length (stepsFrom text next) < length (stepsFrom text at)
+  fewer = omega (arith, ap length (one-more text at r h s w next e))

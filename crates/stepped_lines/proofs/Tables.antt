@@ -1,23 +1,23 @@
 -- Where stepping starts: the rows of a book's compiled rules, and a cleared memory that holds the fresh states.
-use mathlib.Core.Path.{_≡_, refl, sym, subst, _∙_}
+use mathlib.Core.Path.{_≡_, sym, subst, _∙_}
 use mathlib.Core.Bool.{true, false}
 use mathlib.Core.List.{List}
 use Prim.Native.Nat.{ℕ, _+_, _≤_, _<_}
 use native.Mathlib.Omega.{arith}
 use lib.IntN.{pos}
 use lib.ListN.{getD, replicate, length-replicate, getD-replicate}
-use Rattle.formula.proofs.Cases.{true-false}
-use Rattle.monitor.specs.Mon.{Check, range-check, delayed-check, obligation, Mon, check, And, Or, count}
+use Rattle.monitor.specs.Mon.{Mon, count}
 use Rattle.meaning.specs.Culprit.{minus-one}
-use Rattle.meaning.specs.State.{FromMinusOne, fresh}
+use Rattle.meaning.specs.State.{WellShaped, fresh}
 use Rattle.meaning.proofs.Meaning.{fresh-shaped}
-use Rattle.stepping.specs.declared.state.NodeState.{NodeState}
-use Rattle.stepping.specs.Memory.{Memory, get, Inside}
-use Rattle.stepping.specs.Walk.{ShapedEntry, ShapedAt, readMon}
+use Rattle.node_step.specs.declared.state.NodeState.{NodeState}
+use Rattle.node_step.specs.Memory.{Memory, get, Inside}
+use Rattle.stepping.specs.Walk.{Blameless, ShapedAt, readMon}
 use Rattle.stepping.specs.Fresh.{cleared}
-use Rattle.stepping.proofs.Memories.{inside-less, read-same}
-use Rattle.stepping.proofs.Standings.{Stood, stood}
-use Rattle.reports.proofs.Following.{clear-entry, fresh-reads}
+use Rattle.node_step.proofs.Entries.{inside-less}
+use Rattle.stepping.proofs.Memories.{read-same, blameless-same}
+use Rattle.lent.proofs.Standings.{Stood, stood}
+use Rattle.stepping.proofs.Starting.{clear-entry, fresh-reads, fresh-blameless}
 use Rattle.text.specs.Tape.{Tape}
 use Rattle.rules.specs.Rules.{Rule, compiles, mon}
 use Rattle.rules.specs.Tabled.{Tabled}
@@ -76,24 +76,11 @@ module _ (n : ℕ) where
       read-same m (blanks n) (cleared (blanks n) n) k (λ j a b. blank-at j (omega arith) ∙ sym (clear-entry (blanks n) n blanks-inside j (omega arith)))
       ∙ fresh-reads (blanks n) n blanks-inside m k h
 
-  entry-shaped : (c : Check) → ShapedEntry c blank
-  entry-shaped (range-check p r) = refl
-  entry-shaped (delayed-check p q r) = refl
-  entry-shaped (obligation b p q r) = record { window = λ p f. true-false p refl; culprit = tt }
+  blanks-blameless : (m : Mon) (k : ℕ) → k + count m ≤ n → Blameless m (blanks n) k
+  blanks-blameless m k h = blameless-same m (cleared (blanks n) n) (blanks n) k (λ j a b. clear-entry (blanks n) n blanks-inside j (omega arith) ∙ sym (blank-at j (omega arith))) (fresh-blameless (blanks n) n blanks-inside m k h)
 
   blanks-shaped : (m : Mon) (k : ℕ) → k + count m ≤ n → ShapedAt m (blanks n) k
-  unfolding ShapedAt count
-  blanks-shaped (check c) k h = subst (ShapedEntry c) (sym (blank-at k (omega arith))) (entry-shaped c)
-  blanks-shaped (And m o) k h = (
-    subst (λ (e : NodeState). FromMinusOne (e .culprit)) (sym (blank-at k (omega arith))) tt,
-    blanks-shaped m (k + 1) (omega arith),
-    blanks-shaped o (k + 1 + count m) (omega arith),
-  )
-  blanks-shaped (Or m o) k h = (
-    subst (λ (e : NodeState). FromMinusOne (e .culprit)) (sym (blank-at k (omega arith))) tt,
-    blanks-shaped m (k + 1) (omega arith),
-    blanks-shaped o (k + 1 + count m) (omega arith),
-  )
+  blanks-shaped m k h = record { blameless = blanks-blameless m k h; kept = subst (WellShaped m) (sym (blanks-read m k h)) (fresh-shaped m) }
 
 pub fresh-held : (ops nums nodes nfirsts refusals : List ℕ) (R : ℕ → Rule) (n size : ℕ) → Rows ops nums nodes nfirsts refusals R n → 1024 ≤ size → Holding nfirsts R n (freshStates R) (blanks size)
 fresh-held ops nums nodes nfirsts refusals R n size u h = record {

@@ -15,9 +15,11 @@ use Rattle.number.specs.Number.{pick}
 use Rattle.formula.proofs.Cases.{below-or}
 use Rattle.monitor.specs.Mon.{Mon, count}
 use Rattle.meaning.specs.State.{State, step, newlyFailed, culprit}
-use Rattle.stepping.specs.Memory.{Memory, get, Inside}
-use Rattle.stepping.specs.Walk.{NodesAt, readMon, writeMon, Walkable}
-use Rattle.stepping.proofs.Memories.{inside-less, inside-write, write-before, write-past, SameFrom, count-pos}
+use Rattle.node_step.specs.Memory.{Memory, get, Inside}
+use Rattle.lent.specs.Nodes.{NodesAt}
+use Rattle.stepping.specs.Walk.{readMon, writeMon, Walkable}
+use Rattle.node_step.proofs.Entries.{inside-less}
+use Rattle.stepping.proofs.Memories.{inside-write, write-before, write-past, SameFrom, count-pos}
 use Rattle.book.specs.Book.{StepLine}
 use Rattle.text.specs.Tape.{Tape, Wrote, Culprit}
 use Rattle.text.proofs.Tapes.{as-text, append-nil, nothing}

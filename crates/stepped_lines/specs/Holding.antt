@@ -8,8 +8,9 @@ use Prim.Native.Nat.{ℕ, _+_, _*_, _≤_, _<_}
 use lib.ListN.{length, getD}
 use Rattle.monitor.specs.Mon.{Mon, count}
 use Rattle.meaning.specs.State.{State, WellShaped}
-use Rattle.stepping.specs.Memory.{Memory, Inside}
-use Rattle.stepping.specs.Walk.{NodesAt, ShapedAt, readMon}
+use Rattle.node_step.specs.Memory.{Memory, Inside}
+use Rattle.lent.specs.Nodes.{NodesAt}
+use Rattle.stepping.specs.Walk.{ShapedAt, readMon}
 use Rattle.rules.specs.Rules.{Rule, compiles, refusal, mon}
 use Rattle.listing_text.specs.Listing.{States}
 

@@ -8,8 +8,9 @@ use lib.ListN.{length}
 use Rattle.number.specs.Number.{pick}
 use Rattle.monitor.specs.Mon.{Mon, count}
 use Rattle.meaning.specs.State.{step, newlyFailed}
-use Rattle.stepping.specs.Memory.{Memory, Inside}
-use Rattle.stepping.specs.Walk.{NodesAt, ShapedAt, readMon, writeMon}
+use Rattle.node_step.specs.Memory.{Memory, Inside}
+use Rattle.lent.specs.Nodes.{NodesAt}
+use Rattle.stepping.specs.Walk.{ShapedAt, readMon, writeMon}
 use Rattle.book.specs.Book.{StepLine}
 use Rattle.reader.specs.Steps.{stepsFrom}
 use Rattle.text.specs.Tape.{Tape, Wrote}

@@ -1,5 +1,5 @@
 -- Loops that store a run from the front.
-use mathlib.Core.Path.{_≡_, refl, sym, ap, ap₂, subst, _∙_}
+use mathlib.Core.Path.{_≡_, refl, sym, ap, _∙_}
 use mathlib.Core.Bool.{Bool, true, false}
 use mathlib.Core.List.{List, [], _∷_, _++_}
 use mathlib.Core.Option.{Option, none, some}
@@ -8,18 +8,17 @@ use native.Mathlib.Omega.{arith}
 use native.Mathlib.Nat.{add-zero, add-suc, suc-add, zero-add}
 use native.Mathlib.Numerals.{add-one}
 use lib.ListN.{length, getD, set, replicate, length-set, length-replicate}
-use lib.Seq.{sets, length-sets}
+use lib.Seq.{sets}
 use lib.IntN.{ℤ}
 use Rattle.meaning.specs.Culprit.{minus-one}
 use Rattle.formula.specs.Table.{isSome}
 use Rattle.formula.proofs.Cases.{true-false}
 use Rattle.monitor.specs.Mon.{Mon}
-use Rattle.stepping.specs.declared.fresh.Outcome.{Outcome}
 use Rattle.stepping.specs.declared.fresh.Outcome.the-variants.{Made, Refused}
-use Rattle.stepping.specs.Memory.{Memory, Inside}
-use Rattle.stepping.specs.Call.{Tables, lentOf, ruleMon, Known}
-use Rattle.stepping.specs.Fresh.{column, cleared, MakeReady, Makes, Making, refuse, makeMon, orShort, making, freshCall}
-use Rattle.stepping.proofs.Calling.{known-comparable}
+use Rattle.node_step.specs.Memory.{Memory}
+use Rattle.lent.specs.Lent.{Tables, lentOf, ruleMon, Known}
+use Rattle.stepping.specs.Fresh.{column, MakeReady, Makes, Making, refuse, makeMon, orShort, making, freshCall}
+use Rattle.lent.proofs.Standings.{known-comparable}
 
 sets-append : {A : Type 0} (l : List A) (i : ℕ) (xs ys : List A) → sets (sets l i xs) (i + length xs) ys ≡ sets l i (xs ++ ys)
 sets-append l i [] ys = ap (λ (n : ℕ). sets l n ys) (add-zero i)

@@ -1,133 +1,145 @@
--- The test of an entry against its node.
-use mathlib.Core.Path.{_≡_, refl, sym, ap, ap₂, subst, _∙_}
+-- Refusal 2 of a monitor (`fitsMon`, crates/lent, specs/Shape.antt) and the well-shaped states of crates/meaning: both ways.
+--     fits-iff           a monitor's entries fit a rule exactly where they are `Fitted`
+--     monitor-fits-iff   a monitor fits it exactly where it also has the rule's count
+use mathlib.Core.Path.{_≡_, refl, sym, ap, ap₂, _∙_}
 use mathlib.Core.Bool.{Bool, true, false, _&&_, _||_}
 use mathlib.Core.Bool as bool
 use mathlib.Core.List.{List}
-use Prim.Native.Nat.{ℕ, zero, suc, _+_, _≤_, _<_}
-use native.Mathlib.Omega.{arith}
-use lib.Dec.{eqb, leb, ltb}
+use mathlib.Core.Logic.{_↔_}
+use Prim.Native.Nat.{ℕ, zero, suc, _+_}
+use lib.Dec.{leb, eqb}
 use lib.IntN.{ℤ, pos, negsuc}
-use lib.Signed.{ltZ}
-use borrow.Author.Tests.{eq-eqb, ne-eqb, lt-leb, le-leb, ltb-true, ltb-false}
-use mir.Syntax.{w64}
-use mir.Val.{SFits, toZ, ofZ}
-use mir.Facts.{toZ-ofZ}
+use lib.ListN.{getD}
+use borrow.Author.Tests.{leb-true, le-leb, eqb-true, eq-eqb}
 use Rattle.formula.proofs.Cases.{true-false}
-use Rattle.monitor.specs.declared.range.AnchorRange.{AnchorRange}
-use Rattle.monitor.specs.declared.node.SignalExpr.{SignalExpr}
-use Rattle.monitor.specs.declared.node.MonNode.{MonNode}
-use Rattle.monitor.specs.declared.node.MonNode.the-variants.{RangeCheck, DelayedCheck, Obligation, And as AndNode, Or as OrNode}
-use Rattle.monitor.specs.declared.node.Row.{Row}
-use Rattle.monitor.specs.declared.node.Row.the-variants.{Node, Unknown}
-use Rattle.stepping.specs.declared.state.NodeState.{NodeState}
-use Rattle.stepping.specs.Shape.{isMinusOne, fromMinusOne, windowKept, blamelessFits, joinedFits, owedFits, entryFits, rowFits}
+use Rattle.formula.proofs.Walks.{both-true}
+use Rattle.monitor.specs.declared.node.MonNode.the-variants.{And as AndNode, Or as OrNode}
+use Rattle.monitor.specs.Mon.{Check, range-check, delayed-check, obligation, Mon, check, And, Or, count, nodeOf}
+use Rattle.meaning.specs.Culprit.{minus-one}
+use Rattle.meaning.specs.State.{FromMinusOne, WellKept, CheckShaped, WellShaped}
+use Rattle.node_step.specs.declared.state.NodeState.{NodeState}
+use Rattle.node_step.specs.Memory.{Memory, get}
+use Rattle.node_step.specs.Check.{obligationOf, readCheck}
+use Rattle.lent.specs.Shape.{isMinusOne, fromMinusOne, windowKept, entryFits, fitsMon}
+use Rattle.lent.specs.Lent.{Monitor, fits}
+use Rattle.stepping.specs.Walk.{BlamelessEntry, Blameless, ShapedAt, readMon}
+use Rattle.stepping.specs.Fitted.{OwnNode, OwnForms, Fitted}
 
--- ---- culprits
-below-is : (c : ℤ) → ltZ c (negsuc 0) ≡ true → (false ≡ isMinusOne c) × (false ≡ fromMinusOne c)
-below-is (pos n) h = true-false h refl
-below-is (negsuc zero) h = absurd (omega (arith, ltb-true 0 0 h))
-below-is (negsuc (suc n)) h = (refl, refl)
+-- ---- culprits and windows
+minus-one-is : (c : ℤ) → isMinusOne c ≡ true → c ≡ minus-one
+minus-one-is (pos n) h = true-false h refl
+minus-one-is (negsuc zero) h = refl
+minus-one-is (negsuc (suc n)) h = true-false h refl
 
-one-is : (c : ℤ) → ltZ c (pos 0) ≡ true → ltZ c (negsuc 0) ≡ false → true ≡ isMinusOne c
-one-is (pos n) h k = absurd (omega (arith, ltb-true n 0 h))
-one-is (negsuc zero) h k = refl
-one-is (negsuc (suc n)) h k = absurd (omega (arith, ltb-false 0 (suc n) k))
+from-minus-one : (c : ℤ) → fromMinusOne c ≡ true → FromMinusOne c
+from-minus-one (pos n) h = tt
+from-minus-one (negsuc zero) h = tt
+from-minus-one (negsuc (suc n)) h = true-false h refl
 
-up-is : (c : ℤ) → ltZ c (pos 0) ≡ false → false ≡ isMinusOne c
-up-is (pos n) h = refl
-up-is (negsuc n) h = true-false refl h
+from-back : (c : ℤ) → FromMinusOne c → fromMinusOne c ≡ true
+from-back (pos n) h = refl
+from-back (negsuc zero) h = refl
+from-back (negsuc (suc n)) h = absurd h
 
-from-is : (c : ℤ) → ltZ c (negsuc 0) ≡ false → true ≡ fromMinusOne c
-from-is (pos n) h = refl
-from-is (negsuc zero) h = refl
-from-is (negsuc (suc n)) h = absurd (omega (arith, ltb-false 0 (suc n) h))
-
-module _ (c : ℤ) (f : SFits w64 c) where
-  plain : (d : ℤ) (t : Bool) → ltZ (toZ w64 (ofZ w64 c)) d ≡ t → ltZ c d ≡ t
-  plain d t h = ap (λ (x : ℤ). ltZ x d) (sym (toZ-ofZ f)) ∙ h
-
-  pub minus-below : ltZ (toZ w64 (ofZ w64 c)) (pos 0) ≡ true → ltZ (toZ w64 (ofZ w64 c)) (negsuc 0) ≡ true → false ≡ isMinusOne c
-  minus-below h k = below-is c (plain (negsuc 0) true k) .0
-
-  pub minus-one-here : ltZ (toZ w64 (ofZ w64 c)) (pos 0) ≡ true → ltZ (toZ w64 (ofZ w64 c)) (negsuc 0) ≡ false → true ≡ isMinusOne c
-  minus-one-here h k = one-is c (plain (pos 0) true h) (plain (negsuc 0) false k)
-
-  pub minus-up : ltZ (toZ w64 (ofZ w64 c)) (pos 0) ≡ false → false ≡ isMinusOne c
-  minus-up h = up-is c (plain (pos 0) false h)
-
-  pub culprit-below : ltZ (toZ w64 (ofZ w64 c)) (negsuc 0) ≡ true → false ≡ fromMinusOne c
-  culprit-below h = below-is c (plain (negsuc 0) true h) .1
-
-  pub culprit-from : ltZ (toZ w64 (ofZ w64 c)) (negsuc 0) ≡ false → true ≡ fromMinusOne c
-  culprit-from h = from-is c (plain (negsuc 0) false h)
-
--- ---- windows
 module _ (b : ℕ) (st : NodeState) where
-  kept : (x y z : Bool) → st .held ≡ x → st .failed ≡ y → (leb 1 (st .remaining) && leb (st .remaining) b) ≡ z → windowKept b st ≡ (bool.not x || (y || z))
-  kept x y z p q r = λ i. bool.not (p i) || (q i || r i)
+  in-window : (x y : Bool) → st .held ≡ x → st .failed ≡ y → windowKept b st ≡ (bool.not x || (y || (leb 1 (st .remaining) && leb (st .remaining) b)))
+  in-window x y p q = ap₂ (λ (u v : Bool). bool.not u || (v || (leb 1 (st .remaining) && leb (st .remaining) b))) p q
 
-  pub window-empty : st .held ≡ true → st .failed ≡ false → st .remaining < 1 → false ≡ windowKept b st
-  window-empty h f l = sym (kept true false false h f (ap (λ (x : Bool). x && leb (st .remaining) b) (lt-leb 1 (st .remaining) l)))
+  kept-is : fromMinusOne (st .culprit) ≡ true → windowKept b st ≡ true → WellKept b (obligationOf st)
+  kept-is c h = record {
+    window = λ p q.
+        let (x, y) = both-true (leb 1 (st .remaining)) (leb (st .remaining) b) (sym (in-window true false p q) ∙ h) in
+        (leb-true _ _ x, leb-true _ _ y);
+    culprit = from-minus-one (st .culprit) c;
+  }
 
-  pub window-bound : st .held ≡ true → st .failed ≡ false → 1 ≤ st .remaining → leb (st .remaining) b ≡ windowKept b st
-  window-bound h f l = sym (kept true false (leb (st .remaining) b) h f (ap (λ (x : Bool). x && leb (st .remaining) b) (le-leb 1 (st .remaining) l)))
+  kept-back : WellKept b (obligationOf st) → windowKept b st ≡ true
+  kept-back h = go (st .held) (st .failed) refl refl
+    where
+      go : (x y : Bool) → st .held ≡ x → st .failed ≡ y → windowKept b st ≡ true
+      go false y p q = in-window false y p q
+      go true true p q = in-window true true p q
+      go true false p q =
+          let w = h .window p q in
+          in-window true false p q ∙ ap₂ _&&_ (le-leb 1 (st .remaining) (w .0)) (le-leb (st .remaining) b (w .1))
 
-  pub window-failed : st .held ≡ true → st .failed ≡ true → true ≡ windowKept b st
-  window-failed h f = sym (kept true true _ h f refl)
+-- ---- one check's entry
+record FittedCheck (c : Check) (form bound : ℕ) (e : NodeState) : Type 0 where
+  own : OwnNode (nodeOf c) form bound
+  blameless : BlamelessEntry c e
+  kept : CheckShaped c (readCheck c e)
 
-  pub window-shut : st .held ≡ false → true ≡ windowKept b st
-  window-shut h = sym (ap (λ (x : Bool). bool.not x || (st .failed || (leb 1 (st .remaining) && leb (st .remaining) b))) h)
+check-fitted : (c : Check) (form bound : ℕ) (e : NodeState) → entryFits (nodeOf c) form bound e ≡ true → FittedCheck c form bound e
+unfolding CheckShaped
+check-fitted (range-check p r) form bound e h =
+    let (x, y) = both-true (eqb form 0) _ h in
+    record { own = eqb-true form 0 x; blameless = minus-one-is (e .culprit) y; kept = tt }
+check-fitted (delayed-check p q r) form bound e h =
+    let (x, y) = both-true (eqb form 1) _ h in
+    record { own = eqb-true form 1 x; blameless = minus-one-is (e .culprit) y; kept = tt }
+check-fitted (obligation b p q r) form bound e h =
+    let (x, k) = both-true (eqb form 2) _ h in
+    let (y, l) = both-true (eqb bound b) _ k in
+    let (u, v) = both-true (fromMinusOne (e .culprit)) (windowKept b e) l in
+    record { own = (eqb-true form 2 x, eqb-true bound b y); blameless = tt; kept = kept-is b e u v }
 
--- ---- entries
-module _ (form wanted : ℕ) (st : NodeState) (r : Bool) (f : SFits w64 (st .culprit)) where
-  pub blameless-yes : form ≡ wanted → r ≡ isMinusOne (toZ w64 (ofZ w64 (st .culprit))) → r ≡ blamelessFits form wanted st
-  blameless-yes h e = e ∙ ap isMinusOne (toZ-ofZ f) ∙ sym (ap (λ (x : Bool). x && isMinusOne (st .culprit)) (eq-eqb form wanted h))
+check-fits : (c : Check) (form bound : ℕ) (e : NodeState) → FittedCheck c form bound e → entryFits (nodeOf c) form bound e ≡ true
+unfolding CheckShaped
+check-fits (range-check p r) form bound e h = ap₂ _&&_ (eq-eqb form 0 (h .own)) (ap isMinusOne (h .blameless))
+check-fits (delayed-check p q r) form bound e h = ap₂ _&&_ (eq-eqb form 1 (h .own)) (ap isMinusOne (h .blameless))
+check-fits (obligation b p q r) form bound e h =
+    ap₂ _&&_ (eq-eqb form 2 (h .own .0)) (ap₂ _&&_ (eq-eqb bound b (h .own .1)) (ap₂ _&&_ (from-back (e .culprit) (h .kept .culprit)) (kept-back b e (h .kept))))
 
-  pub joined-yes : form ≡ wanted → r ≡ fromMinusOne (toZ w64 (ofZ w64 (st .culprit))) → r ≡ joinedFits form wanted st
-  joined-yes h e = e ∙ ap fromMinusOne (toZ-ofZ f) ∙ sym (ap (λ (x : Bool). x && fromMinusOne (st .culprit)) (eq-eqb form wanted h))
+-- ---- a tree's entries
+module _ (forms bounds : List ℕ) (mem : Memory) where
+  pub fits-fitted : (m : Mon) (i : ℕ) → fitsMon m forms bounds mem i ≡ true → Fitted m forms bounds mem i
+  unfolding fitsMon OwnForms Blameless WellShaped readMon
+  fits-fitted (check c) i h =
+      let x = check-fitted c (getD forms i 0) (getD bounds i 0) (get mem i) h in
+      record { own = x .own; blameless = x .blameless; kept = x .kept }
+  fits-fitted (And m n) i h =
+      let (x, y) = both-true (entryFits AndNode (getD forms i 0) (getD bounds i 0) (get mem i)) _ h in
+      let (p, q) = both-true (fitsMon m forms bounds mem (i + 1)) _ y in
+      let (f, c) = both-true (eqb (getD forms i 0) 3) _ x in
+      let l = fits-fitted m (i + 1) p in
+      let r = fits-fitted n (i + 1 + count m) q in
+      record { own = (eqb-true _ _ f, l .own, r .own); blameless = (l .blameless, r .blameless); kept = (l .kept, r .kept, from-minus-one (get mem i .culprit) c) }
+  fits-fitted (Or m n) i h =
+      let (x, y) = both-true (entryFits OrNode (getD forms i 0) (getD bounds i 0) (get mem i)) _ h in
+      let (p, q) = both-true (fitsMon m forms bounds mem (i + 1)) _ y in
+      let (f, c) = both-true (eqb (getD forms i 0) 4) _ x in
+      let l = fits-fitted m (i + 1) p in
+      let r = fits-fitted n (i + 1 + count m) q in
+      record { own = (eqb-true _ _ f, l .own, r .own); blameless = (l .blameless, r .blameless); kept = (l .kept, r .kept, from-minus-one (get mem i .culprit) c) }
 
-pub blameless-no : (form wanted : ℕ) (st : NodeState) → (form ≡ wanted → ⊥) → false ≡ blamelessFits form wanted st
-blameless-no form wanted st h = sym (ap (λ (x : Bool). x && isMinusOne (st .culprit)) (ne-eqb form wanted h))
+  pub fitted-fits : (m : Mon) (i : ℕ) → Fitted m forms bounds mem i → fitsMon m forms bounds mem i ≡ true
+  unfolding fitsMon OwnForms Blameless WellShaped readMon
+  fitted-fits (check c) i h = check-fits c (getD forms i 0) (getD bounds i 0) (get mem i) (record { own = h .own; blameless = h .blameless; kept = h .kept })
+  fitted-fits (And m n) i h =
+      ap₂ _&&_ (ap₂ _&&_ (eq-eqb (getD forms i 0) 3 (h .own .0)) (from-back (get mem i .culprit) (h .kept .2)))
+      (ap₂ _&&_ (fitted-fits m (i + 1) (record { own = h .own .1; blameless = h .blameless .0; kept = h .kept .0 }))
+      (fitted-fits n (i + 1 + count m) (record { own = h .own .2; blameless = h .blameless .1; kept = h .kept .1 })))
+  fitted-fits (Or m n) i h =
+      ap₂ _&&_ (ap₂ _&&_ (eq-eqb (getD forms i 0) 4 (h .own .0)) (from-back (get mem i .culprit) (h .kept .2)))
+      (ap₂ _&&_ (fitted-fits m (i + 1) (record { own = h .own .1; blameless = h .blameless .0; kept = h .kept .0 }))
+      (fitted-fits n (i + 1 + count m) (record { own = h .own .2; blameless = h .blameless .1; kept = h .kept .1 })))
 
-pub joined-no : (form wanted : ℕ) (st : NodeState) → (form ≡ wanted → ⊥) → false ≡ joinedFits form wanted st
-joined-no form wanted st h = sym (ap (λ (x : Bool). x && fromMinusOne (st .culprit)) (ne-eqb form wanted h))
+  pub fits-iff : (m : Mon) (i : ℕ) → (fitsMon m forms bounds mem i ≡ true) ↔ Fitted m forms bounds mem i
+  fits-iff m i = (fits-fitted m i, fitted-fits m i)
 
-module _ (b form bound : ℕ) (st : NodeState) where
-  owed-by : (x y z : Bool) → eqb form 2 ≡ x → eqb bound b ≡ y → fromMinusOne (st .culprit) ≡ z → owedFits b form bound st ≡ (x && (y && (z && windowKept b st)))
-  owed-by x y z p q r = λ i. p i && (q i && (r i && windowKept b st))
+  -- what the walk asks for
+  pub fits-shaped : (m : Mon) (i : ℕ) → fitsMon m forms bounds mem i ≡ true → ShapedAt m mem i
+  fits-shaped m i h = let x = fits-fitted m i h in record { blameless = x .blameless; kept = x .kept }
 
-  pub owed-form : (form ≡ 2 → ⊥) → false ≡ owedFits b form bound st
-  owed-form h = sym (owed-by false _ _ (ne-eqb form 2 h) refl refl)
+-- ---- a whole monitor
+module _ (m : Mon) (k : Monitor) where
+  pub fits-inv : fits m k ≡ true → (k .size ≡ count m) × Fitted m (k .forms) (k .bounds) (k .memory) 0
+  fits-inv h =
+      let (x, y) = both-true (eqb (k .size) (count m)) (fitsMon m (k .forms) (k .bounds) (k .memory) 0) h in
+      (eqb-true _ _ x, fits-fitted (k .forms) (k .bounds) (k .memory) m 0 y)
 
-  pub owed-bound : form ≡ 2 → (bound ≡ b → ⊥) → false ≡ owedFits b form bound st
-  owed-bound h k = sym (owed-by true false _ (eq-eqb form 2 h) (ne-eqb bound b k) refl)
+  pub fits-by : k .size ≡ count m → Fitted m (k .forms) (k .bounds) (k .memory) 0 → fits m k ≡ true
+  fits-by e h = ap₂ _&&_ (eq-eqb (k .size) (count m) e) (fitted-fits (k .forms) (k .bounds) (k .memory) m 0 h)
 
-  module _ (f : SFits w64 (st .culprit)) (h : form ≡ 2) (k : bound ≡ b) (c : Bool) (e : c ≡ fromMinusOne (toZ w64 (ofZ w64 (st .culprit)))) where
-    pub owed-culprit : c ≡ false → false ≡ owedFits b form bound st
-    owed-culprit q = sym (owed-by true true false (eq-eqb form 2 h) (eq-eqb bound b k) (ap fromMinusOne (sym (toZ-ofZ f)) ∙ sym e ∙ q))
-
-    pub owed-window : (r : Bool) → c ≡ true → r ≡ windowKept b st → r ≡ owedFits b form bound st
-    owed-window r q w = w ∙ sym (owed-by true true true (eq-eqb form 2 h) (eq-eqb bound b k) (ap fromMinusOne (sym (toZ-ofZ f)) ∙ sym e ∙ q))
-
--- ---- rows
-module _ (n : MonNode) (form bound : ℕ) (st : NodeState) (r : Bool) where
-  pub fits-range : (s : SignalExpr) (g : AnchorRange) → n ≡ RangeCheck s g → r ≡ blamelessFits form 0 st → r ≡ entryFits n form bound st
-  fits-range s g e q = q ∙ sym (ap (λ (x : MonNode). entryFits x form bound st) e)
-
-  pub fits-delayed : (s t : SignalExpr) (g : AnchorRange) → n ≡ DelayedCheck s t g → r ≡ blamelessFits form 1 st → r ≡ entryFits n form bound st
-  fits-delayed s t g e q = q ∙ sym (ap (λ (x : MonNode). entryFits x form bound st) e)
-
-  pub fits-owed : (b : ℕ) (s t : SignalExpr) (g : AnchorRange) → n ≡ Obligation b s t g → r ≡ owedFits b form bound st → r ≡ entryFits n form bound st
-  fits-owed b s t g e q = q ∙ sym (ap (λ (x : MonNode). entryFits x form bound st) e)
-
-  pub fits-and : n ≡ AndNode → r ≡ joinedFits form 3 st → r ≡ entryFits n form bound st
-  fits-and e q = q ∙ sym (ap (λ (x : MonNode). entryFits x form bound st) e)
-
-  pub fits-or : n ≡ OrNode → r ≡ joinedFits form 4 st → r ≡ entryFits n form bound st
-  fits-or e q = q ∙ sym (ap (λ (x : MonNode). entryFits x form bound st) e)
-
-pub row-known : (w : Row) (n : MonNode) (form bound : ℕ) (st : NodeState) (r : Bool) → w ≡ Node n → r ≡ entryFits n form bound st → r ≡ rowFits w form bound st
-row-known w n form bound st r e q = q ∙ sym (ap (λ (x : Row). rowFits x form bound st) e)
-
-pub row-unknown : (w : Row) (form bound : ℕ) (st : NodeState) → w ≡ Unknown → false ≡ rowFits w form bound st
-row-unknown w form bound st e = sym (ap (λ (x : Row). rowFits x form bound st) e)
+  pub monitor-fits-iff : (fits m k ≡ true) ↔ ((k .size ≡ count m) × Fitted m (k .forms) (k .bounds) (k .memory) 0)
+  monitor-fits-iff = (fits-inv, λ (e, h). fits-by e h)

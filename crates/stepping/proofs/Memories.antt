@@ -1,58 +1,17 @@
 -- Entries of a monitor's memory, and trees of them.
-use mathlib.Core.Path.{_≡_, refl, sym, ap, ap₂, subst, _∙_}
-use mathlib.Core.Bool.{Bool, true, false}
+use mathlib.Core.Path.{_≡_, refl, sym, ap, subst, _∙_}
+use mathlib.Core.Bool.{Bool}
 use Prim.Native.Nat.{ℕ, _+_, _-_, _≤_, _<_}
 use native.Mathlib.Omega.{arith}
-use lib.IntN.{ℤ, pos}
-use lib.ListN.{length, getD, set, length-set}
-use lib.Seq.{getD-set-same, getD-set-other, set-getD}
+use lib.IntN.{ℤ}
 use Rattle.monitor.specs.Mon.{Check, range-check, delayed-check, obligation, Mon, check, And, Or, count}
-use Rattle.meaning.specs.Culprit.{minus-one}
-use Rattle.meaning.specs.State.{State, CheckState, JoinedState, FromMinusOne, WellKept, culprit, failed}
-use Rattle.stepping.specs.declared.state.NodeState.{NodeState}
-use Rattle.stepping.specs.Memory.{Memory, get, put, Inside}
-use Rattle.stepping.specs.Check.{obligationOf, readCheck, writeCheck}
-use Rattle.stepping.specs.Walk.{ShapedEntry, ShapedAt, readMon, writeMon, joinedEntry}
-
--- ---- one entry
-module _ (mem : Memory) (i : ℕ) (x : NodeState) where
-  pub get-put-same : Inside mem (i + 1) → get (put mem i x) i ≡ x
-  get-put-same d = λ j. record {
-    held = getD-set-same (mem .held) i (x .held) false (omega (arith, d .held)) j;
-    remaining = getD-set-same (mem .remaining) i (x .remaining) 0 (omega (arith, d .remaining)) j;
-    failed = getD-set-same (mem .failed) i (x .failed) false (omega (arith, d .failed)) j;
-    culprit = getD-set-same (mem .culprits) i (x .culprit) (pos 0) (omega (arith, d .culprits)) j;
-  }
-
-  pub get-put-other : (k : ℕ) → (k ≡ i → ⊥) → get (put mem i x) k ≡ get mem k
-  get-put-other k n = λ j. record {
-    held = getD-set-other (mem .held) i k (x .held) false n j;
-    remaining = getD-set-other (mem .remaining) i k (x .remaining) 0 n j;
-    failed = getD-set-other (mem .failed) i k (x .failed) false n j;
-    culprit = getD-set-other (mem .culprits) i k (x .culprit) (pos 0) n j;
-  }
-
-  pub inside-put : (n : ℕ) → Inside mem n → Inside (put mem i x) n
-  inside-put n d = record {
-    held = subst (λ (k : ℕ). n ≤ k) (sym (length-set (mem .held) i (x .held))) (d .held);
-    remaining = subst (λ (k : ℕ). n ≤ k) (sym (length-set (mem .remaining) i (x .remaining))) (d .remaining);
-    failed = subst (λ (k : ℕ). n ≤ k) (sym (length-set (mem .failed) i (x .failed))) (d .failed);
-    culprits = subst (λ (k : ℕ). n ≤ k) (sym (length-set (mem .culprits) i (x .culprit))) (d .culprits);
-  }
-
-pub culprit-put : (mem : Memory) (i : ℕ) (x : NodeState) → Inside mem (i + 1) → get (put mem i x) i .culprit ≡ x .culprit
-culprit-put mem i x d = getD-set-same (mem .culprits) i (x .culprit) (pos 0) (omega (arith, d .culprits))
-
-pub put-get : (mem : Memory) (i : ℕ) → put mem i (get mem i) ≡ mem
-put-get mem i = λ j. record {
-  held = set-getD (mem .held) i false j;
-  remaining = set-getD (mem .remaining) i 0 j;
-  failed = set-getD (mem .failed) i false j;
-  culprits = set-getD (mem .culprits) i (pos 0) j;
-}
-
-pub inside-less : (mem : Memory) (m n : ℕ) → m ≤ n → Inside mem n → Inside mem m
-inside-less mem m n h d = record { held = omega (arith, d .held); remaining = omega (arith, d .remaining); failed = omega (arith, d .failed); culprits = omega (arith, d .culprits) }
+use Rattle.meaning.specs.State.{State, CheckState, JoinedState, WellShaped, culprit, failed}
+use Rattle.node_step.specs.declared.state.NodeState.{NodeState}
+use Rattle.node_step.proofs.Entries.{get-put-same, get-put-other, inside-put, culprit-put, inside-less}
+use Rattle.node_step.specs.Memory.{Memory, get, put, Inside}
+use Rattle.node_step.specs.Check.{readCheck, writeCheck}
+use Rattle.stepping.specs.Walk.{BlamelessEntry, Blameless, ShapedAt, readMon, writeMon}
+use Rattle.node_step.specs.Joined.{joinedEntry}
 
 pub count-pos : (m : Mon) → 1 ≤ count m
 unfolding count
@@ -108,19 +67,20 @@ read-same (Or m n) a b i h = λ j. record {
   culprit = h i (omega arith) (omega arith) j .culprit;
 }
 
+pub blameless-same : (m : Mon) (a b : Memory) (i : ℕ) → SameFrom a b i (count m) → Blameless m a i → Blameless m b i
+unfolding Blameless count
+blameless-same (check c) a b i h s = subst (BlamelessEntry c) (h i (omega arith) (omega arith)) s
+blameless-same (And m n) a b i h s = (
+  blameless-same m a b (i + 1) (λ k p q. h k (omega arith) (omega arith)) (s .0),
+  blameless-same n a b (i + 1 + count m) (λ k p q. h k (omega arith) (omega arith)) (s .1),
+)
+blameless-same (Or m n) a b i h s = (
+  blameless-same m a b (i + 1) (λ k p q. h k (omega arith) (omega arith)) (s .0),
+  blameless-same n a b (i + 1 + count m) (λ k p q. h k (omega arith) (omega arith)) (s .1),
+)
+
 pub shaped-same : (m : Mon) (a b : Memory) (i : ℕ) → SameFrom a b i (count m) → ShapedAt m a i → ShapedAt m b i
-unfolding ShapedAt count
-shaped-same (check c) a b i h s = subst (ShapedEntry c) (h i (omega arith) (omega arith)) s
-shaped-same (And m n) a b i h s = (
-  subst (λ (e : NodeState). FromMinusOne (e .culprit)) (h i (omega arith) (omega arith)) (s .0),
-  shaped-same m a b (i + 1) (λ k p q. h k (omega arith) (omega arith)) (s .1),
-  shaped-same n a b (i + 1 + count m) (λ k p q. h k (omega arith) (omega arith)) (s .2),
-)
-shaped-same (Or m n) a b i h s = (
-  subst (λ (e : NodeState). FromMinusOne (e .culprit)) (h i (omega arith) (omega arith)) (s .0),
-  shaped-same m a b (i + 1) (λ k p q. h k (omega arith) (omega arith)) (s .1),
-  shaped-same n a b (i + 1 + count m) (λ k p q. h k (omega arith) (omega arith)) (s .2),
-)
+shaped-same m a b i h s = record { blameless = blameless-same m a b i h (s .blameless); kept = subst (WellShaped m) (read-same m a b i h) (s .kept) }
 
 -- what was written is read
 check-back : (c : Check) (st : CheckState c) (e : NodeState) → readCheck c (writeCheck c st e) ≡ st
@@ -166,9 +126,38 @@ read-back (Or m n) st mem i d =
     (read-back m (st .left) mem (i + 1) (inside-less mem (i + 1 + count m) (i + (1 + count m + count n)) (omega arith) d))
     (read-back n (st .right) (writeMon m (st .left) mem (i + 1)) (i + 1 + count m) (inside-less _ (i + 1 + count m + count n) (i + (1 + count m + count n)) (omega arith) (inside-write m (st .left) mem (i + 1) (i + (1 + count m + count n)) d)))
 
+-- a write changes no culprit of a range or delayed check
+check-blameless : (c : Check) (st : CheckState c) (e : NodeState) → BlamelessEntry c e → BlamelessEntry c (writeCheck c st e)
+check-blameless (range-check p r) st e h = h
+check-blameless (delayed-check p q r) st e h = h
+check-blameless (obligation b p q r) st e h = tt
+
+pub blameless-write : (m : Mon) (st : State m) (mem : Memory) (i : ℕ) → Inside mem (i + count m) → Blameless m mem i → Blameless m (writeMon m st mem i) i
+unfolding Blameless writeMon count
+blameless-write (check c) st mem i d h = subst (BlamelessEntry c) (sym (get-put-same mem i _ d)) (check-blameless c st (get mem i) h)
+blameless-write (And m n) st mem i d h =
+    let one = writeMon m (st .left) mem (i + 1) in
+    let i₁ : Inside one (i + 1 + count m + count n) = inside-write m (st .left) mem (i + 1) (i + 1 + count m + count n) (inside-less mem (i + 1 + count m + count n) (i + (1 + count m + count n)) (omega arith) d) in
+    let i₀ : Inside mem (i + 1 + count m) = inside-less mem (i + 1 + count m) (i + (1 + count m + count n)) (omega arith) d in (
+      blameless-same m _ _ (i + 1) (λ k p q. sym (left-stays m n (st .left) (st .right) (st .failed) (st .culprit) mem i k p q)) (blameless-write m (st .left) mem (i + 1) i₀ (h .0)),
+      blameless-same n _ _ (i + 1 + count m) (λ k p q. sym (right-stays m n (st .left) (st .right) (st .failed) (st .culprit) mem i k p q))
+          (blameless-write n (st .right) one (i + 1 + count m) i₁ (blameless-same n mem one (i + 1 + count m) (λ k p q. sym (write-past m (st .left) mem (i + 1) k p)) (h .1))),
+    )
+blameless-write (Or m n) st mem i d h =
+    let one = writeMon m (st .left) mem (i + 1) in
+    let i₁ : Inside one (i + 1 + count m + count n) = inside-write m (st .left) mem (i + 1) (i + 1 + count m + count n) (inside-less mem (i + 1 + count m + count n) (i + (1 + count m + count n)) (omega arith) d) in
+    let i₀ : Inside mem (i + 1 + count m) = inside-less mem (i + 1 + count m) (i + (1 + count m + count n)) (omega arith) d in (
+      blameless-same m _ _ (i + 1) (λ k p q. sym (left-stays m n (st .left) (st .right) (st .failed) (st .culprit) mem i k p q)) (blameless-write m (st .left) mem (i + 1) i₀ (h .0)),
+      blameless-same n _ _ (i + 1 + count m) (λ k p q. sym (right-stays m n (st .left) (st .right) (st .failed) (st .culprit) mem i k p q))
+          (blameless-write n (st .right) one (i + 1 + count m) i₁ (blameless-same n mem one (i + 1 + count m) (λ k p q. sym (write-past m (st .left) mem (i + 1) k p)) (h .1))),
+    )
+
+pub shaped-write : (m : Mon) (st : State m) (mem : Memory) (i : ℕ) → Inside mem (i + count m) → ShapedAt m mem i → WellShaped m st → ShapedAt m (writeMon m st mem i) i
+shaped-write m st mem i d h s = record { blameless = blameless-write m st mem i d (h .blameless); kept = subst (WellShaped m) (sym (read-back m st mem i d)) s }
+
 -- the root's culprit after a write, where range and delayed checks held minus 1
-pub culprit-written : (m : Mon) (st : State m) (mem : Memory) (i : ℕ) → Inside mem (i + count m) → ShapedAt m mem i → get (writeMon m st mem i) i .culprit ≡ culprit m st
-unfolding writeMon ShapedAt count
+pub culprit-written : (m : Mon) (st : State m) (mem : Memory) (i : ℕ) → Inside mem (i + count m) → Blameless m mem i → get (writeMon m st mem i) i .culprit ≡ culprit m st
+unfolding writeMon Blameless count
 culprit-written (check (range-check p r)) st mem i d s = culprit-put mem i (writeCheck (range-check p r) st (get mem i)) d ∙ s
 culprit-written (check (delayed-check p q r)) st mem i d s = culprit-put mem i (writeCheck (delayed-check p q r) st (get mem i)) d ∙ s
 culprit-written (check (obligation b p q r)) st mem i d s = culprit-put mem i (writeCheck (obligation b p q r) st (get mem i)) d
@@ -179,8 +168,8 @@ culprit-written (Or m n) st mem i d s =
     let both = writeMon n (st .right) (writeMon m (st .left) mem (i + 1)) (i + 1 + count m) in
     culprit-put both i (joinedEntry (st .failed) (st .culprit) (get both i)) (inside-write n (st .right) (writeMon m (st .left) mem (i + 1)) (i + 1 + count m) (i + 1) (inside-write m (st .left) mem (i + 1) (i + 1) (inside-less mem (i + 1) (i + (1 + count m + count n)) (omega arith) d)))
 
-pub culprit-read : (m : Mon) (mem : Memory) (i : ℕ) → ShapedAt m mem i → culprit m (readMon m mem i) ≡ get mem i .culprit
-unfolding readMon ShapedAt
+pub culprit-read : (m : Mon) (mem : Memory) (i : ℕ) → Blameless m mem i → culprit m (readMon m mem i) ≡ get mem i .culprit
+unfolding readMon Blameless
 culprit-read (check (range-check p r)) mem i s = sym s
 culprit-read (check (delayed-check p q r)) mem i s = sym s
 culprit-read (check (obligation b p q r)) mem i s = refl

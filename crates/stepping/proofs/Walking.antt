@@ -5,28 +5,29 @@ use mathlib.Core.Bool as bool
 use mathlib.Core.List.{List}
 use Prim.Native.Nat.{ℕ, _+_, _-_, _*_, _≤_, _<_, _^_}
 use native.Mathlib.Omega.{arith}
-use lib.IntN.{ℤ, pos}
-use lib.ListN.{length, getD}
+use lib.ListN.{length}
 use mir.Syntax.{w64}
-use mir.Val.{Fits, SFits, toZ, ofZ}
-use mir.Facts.{toZ-ofZ}
+use mir.Val.{Fits}
 use Rattle.formula.proofs.Cases.{true-false}
 use Rattle.monitor.specs.declared.node.MonNode.{MonNode}
-use Rattle.monitor.specs.declared.node.MonNode.the-variants.{RangeCheck, DelayedCheck, Obligation, And as AndNode, Or as OrNode}
+use Rattle.monitor.specs.declared.node.MonNode.the-variants.{And as AndNode, Or as OrNode}
 use Rattle.monitor.specs.declared.node.Row.{Row}
 use Rattle.monitor.specs.declared.node.Row.the-variants.{Node, Unknown}
 use Rattle.monitor.specs.Mon.{Check, range-check, delayed-check, obligation, Mon, check, And, Or, count, nodeOf}
 use Rattle.monitor.specs.Table.{rowOf}
-use Rattle.meaning.specs.Culprit.{minus-one}
-use Rattle.meaning.specs.State.{State, CheckState, JoinedState, Stepped, FromMinusOne, WellKept, CheckShaped, checkStep, joinedStep, step, culprit, failed, least, offered, pickCulprit}
-use Rattle.stepping.specs.declared.state.NodeState.{NodeState}
+use Rattle.meaning.specs.State.{State, CheckShaped, WellShaped, joinedStep, step, culprit, failed, least, offered, pickCulprit}
+use Rattle.node_step.specs.declared.state.NodeState.{NodeState}
 use Rattle.stepping.specs.declared.walk.NodeOut.{NodeOut}
-use Rattle.stepping.specs.declared.walk.Parts.{Parts}
-use Rattle.stepping.specs.declared.walk.Parts.the-variants.{Single, Joined}
-use Rattle.stepping.specs.Memory.{Memory, get, put, Inside}
-use Rattle.stepping.specs.Check.{obligationOf, readCheck, writeCheck, GroundedCheck, Steppable, CheckStepped}
-use Rattle.stepping.specs.Walk.{NodesAt, ShapedEntry, ShapedAt, readMon, writeMon, joinedEntry, Walkable, NodeStepped, partsOf, joinedNow, Leaf, joinOf, joinedOf, Pair, PairReady, finished, Finished}
-use Rattle.stepping.proofs.Memories.{get-put-same, get-put-other, put-get, inside-put, inside-less, inside-write, count-pos, write-before, write-past, SameFrom, read-same, shaped-same, culprit-written}
+use Rattle.node_step.specs.declared.joined.Parts.{Parts}
+use Rattle.node_step.specs.declared.joined.Parts.the-variants.{Single, Joined}
+use Rattle.node_step.specs.Memory.{Memory, get, put, Inside}
+use Rattle.node_step.specs.Check.{readCheck, CheckStepped}
+use Rattle.lent.specs.Nodes.{NodesAt}
+use Rattle.stepping.specs.Walk.{monNodes, Blameless, ShapedAt, readMon, writeMon, Walkable, NodeStepped, Leaf, joinOf, Pair}
+use Rattle.node_step.specs.Joined.{joinedEntry, partsOf, joinedNow, PairReady, Finished}
+use Rattle.node_step.proofs.Entries.{inside-less}
+use Rattle.stepping.proofs.Subtrees.{subtree}
+use Rattle.stepping.proofs.Memories.{inside-write, count-pos, write-before, write-past, SameFrom, read-same, blameless-same, shaped-same, culprit-written}
 
 node-inj : {a b : MonNode} → Node a ≡ Node b → a ≡ b
 node-inj e = cc
@@ -42,24 +43,9 @@ check-single (range-check p r) = refl
 check-single (delayed-check p q r) = refl
 check-single (obligation b p q r) = refl
 
-shaped-check : (c : Check) (e : NodeState) → ShapedEntry c e → CheckShaped c (readCheck c e)
-unfolding CheckShaped
-shaped-check (range-check p r) e s = tt
-shaped-check (delayed-check p q r) e s = tt
-shaped-check (obligation b p q r) e s = s
-
--- ---- now
-pub now-any : (any l r : Bool) → any ≡ true → l ≡ true → true ≡ joinedNow any l r
-now-any any l r a h = sym (ap₂ (λ (x y : Bool). joinedNow x y r) a h)
-
-pub now-any-right : (any l r : Bool) → any ≡ true → l ≡ false → r ≡ joinedNow any l r
-now-any-right any l r a h = sym (ap₂ (λ (x y : Bool). joinedNow x y r) a h)
-
-pub now-all-right : (any l r : Bool) → any ≡ false → l ≡ true → r ≡ joinedNow any l r
-now-all-right any l r a h = sym (ap₂ (λ (x y : Bool). joinedNow x y r) a h)
-
-pub now-all-no : (any l r : Bool) → any ≡ false → l ≡ false → false ≡ joinedNow any l r
-now-all-no any l r a h = sym (ap₂ (λ (x y : Bool). joinedNow x y r) a h)
+shaped-check : (c : Check) (mem : Memory) (k : ℕ) → ShapedAt (check c) mem k → CheckShaped c (readCheck c (get mem k))
+unfolding WellShaped readMon
+shaped-check c mem k s = s .kept
 
 -- ---- a check
 module _ (ops nums nodes : List ℕ) (nfirst : ℕ) (mem : Memory) (node : MonNode) (k s : ℕ) (d : Leaf ops nums nodes nfirst mem node k s) where
@@ -75,64 +61,13 @@ module _ (ops nums nodes : List ℕ) (nfirst : ℕ) (mem : Memory) (node : MonNo
       go (And m n) a b i = single-joined (sym (d .single) ∙ ap partsOf (node-inj (sym (d .row) ∙ a .0)))
       go (Or m n) a b i = single-joined (sym (d .single) ∙ ap partsOf (node-inj (sym (d .row) ∙ a .0)))
 
--- ---- a joined node's entry
-module _ (st : NodeState) (now left : Bool) (a : NodeState) (right : Bool) (b : NodeState) where
-  or-false : (x : Bool) → (x || false) ≡ x
-  or-false true = refl
-  or-false false = refl
-
-  pub joined-failed : st .failed ≡ true → st ≡ joinedOf st now left a right b
-  joined-failed g = λ j. record {
-    held = st .held;
-    remaining = st .remaining;
-    failed = sym (ap (λ (x : Bool). x || now) g ∙ sym g) j;
-    culprit = sym (ap (λ (x : Bool). pickCulprit (bool.not x && now) (least (offered left (a .culprit)) (offered right (b .culprit))) (st .culprit)) g) j;
-  }
-
-  pub joined-quiet : now ≡ false → st ≡ joinedOf st now left a right b
-  joined-quiet n = λ j. record {
-    held = st .held;
-    remaining = st .remaining;
-    failed = sym (ap (λ (x : Bool). st .failed || x) n ∙ or-false (st .failed)) j;
-    culprit = sym (ap (λ (x : Bool). pickCulprit (bool.not (st .failed) && x) (least (offered left (a .culprit)) (offered right (b .culprit))) (st .culprit)) n ∙ none (st .failed) _) j;
-  }
-    where
-      none : (x : Bool) (c : ℤ) → pickCulprit (bool.not x && false) c (st .culprit) ≡ st .culprit
-      none true c = refl
-      none false c = refl
-
-  pub joined-fails : (x y c : ℤ) → SFits w64 (a .culprit) → SFits w64 (b .culprit) → SFits w64 x → SFits w64 y → SFits w64 c → st .failed ≡ false → now ≡ true → x ≡ offered left (toZ w64 (ofZ w64 (a .culprit))) → y ≡ offered right (toZ w64 (ofZ w64 (b .culprit))) → c ≡ least (toZ w64 (ofZ w64 x)) (toZ w64 (ofZ w64 y)) → _≡_ {A = NodeState} (record { held = st .held; remaining = st .remaining; failed = true; culprit = toZ w64 (ofZ w64 c) }) (joinedOf st now left a right b)
-  joined-fails x y c f f′ fx fy f″ g n p q l =
-      let v : c ≡ least (offered left (a .culprit)) (offered right (b .culprit)) = l ∙ ap₂ least (toZ-ofZ fx ∙ p ∙ ap (offered left) (toZ-ofZ f)) (toZ-ofZ fy ∙ q ∙ ap (offered right) (toZ-ofZ f′)) in
-      λ j. record {
-        held = st .held;
-        remaining = st .remaining;
-        failed = sym (ap₂ (λ (u w : Bool). u || w) g n) j;
-        culprit = (toZ-ofZ f″ ∙ v ∙ sym (ap₂ (λ (u w : Bool). pickCulprit (bool.not u && w) (least (offered left (a .culprit)) (offered right (b .culprit))) (st .culprit)) g n)) j;
-      }
-
-pub finish-all : (mem : Memory) (k mid : ℕ) (now left right : Bool) (st a b e : NodeState) (mem′ : Memory) → st ≡ get mem k → a ≡ get mem (k + 1) → b ≡ get mem mid → e ≡ joinedOf st now left a right b → mem′ ≡ put mem k e → Finished mem k mid now left right mem′
-finish-all mem k mid now left right st a b e mem′ p q r u v = record { is = v ∙ ap (put mem k) (u ∙ ap (λ (x : NodeState). joinedOf x now left a right b) p ∙ ap₂ (λ (x y : NodeState). joinedOf (get mem k) now left x right y) q r) }
-
-module _ (mem : Memory) (k mid : ℕ) (d : PairReady mem k mid) where
-  pub pair-entry : Inside mem (k + 1)
-  pair-entry = inside-less mem (k + 1) (mid + 1) (omega (arith, d .first)) (d .inside)
-
-  pub pair-left : Inside mem (k + 1 + 1)
-  pair-left = inside-less mem (k + 1 + 1) (mid + 1) (omega (arith, d .first)) (d .inside)
-
-  pub pair-right : Inside mem (mid + 1)
-  pair-right = d .inside
-
-  pub pair-fits : length (mem .held) < 2 ^ 64 → Fits w64 (k + 1)
-  pair-fits h = record { fits = omega (arith, pair-left .held) }
-
 -- ---- a node
 module _ (ops nums nodes : List ℕ) (nfirst : ℕ) (mem : Memory) (k s : ℕ) (d : Walkable ops nums nodes nfirst mem k s) where
   pub walk-row : 7 * (nfirst + k + 1) ≤ length nodes
   walk-row = omega (arith, d .in-nodes, count-pos (d .mon))
 
-  pub walk-falls : (t : ℕ) → 2 * (length nodes - 7 * (nfirst + k)) + 1 ≡ t → 2 * (length nodes - 7 * (nfirst + k)) < t
+  -- the size of the subtree, the measure of the walk
+  pub walk-falls : (t : ℕ) → 2 * monNodes nodes (nfirst + k) + 1 ≡ t → 2 * monNodes nodes (nfirst + k) < t
   walk-falls t h = omega arith
 
   -- the row is known
@@ -153,7 +88,7 @@ module _ (ops nums nodes : List ℕ) (nfirst : ℕ) (mem : Memory) (k s : ℕ) (
 
   module _ (x : Row) (node : MonNode) (p : Parts) (e : x ≡ rowOf nodes (nfirst + k)) (q : x ≡ Node node) (u : p ≡ partsOf node) where
     pub leaf-ready : p ≡ Single → Leaf ops nums nodes nfirst mem node k s
-    unfolding NodesAt ShapedAt count
+    unfolding NodesAt count
     leaf-ready v = go (d .mon) (d .stands) (d .shaped) (d .inside)
       where
         go : (m : Mon) → NodesAt ops nums nodes (nfirst + k) m → ShapedAt m mem k → Inside mem (k + count m) → Leaf ops nums nodes nfirst mem node k s
@@ -162,7 +97,7 @@ module _ (ops nums nodes : List ℕ) (nfirst : ℕ) (mem : Memory) (k s : ℕ) (
               row = sym e ∙ q;
               inside = i;
               single = sym u ∙ v;
-              steps = record { check = c; is = node-inj (sym (a .0) ∙ sym e ∙ q); stands = a .1; shaped = shaped-check c (get mem k) b; below = d .below };
+              steps = record { check = c; is = node-inj (sym (a .0) ∙ sym e ∙ q); stands = a .1; shaped = shaped-check c mem k b; below = d .below };
             }
         go (And m n) a b i = single-joined (sym v ∙ u ∙ ap partsOf (node-inj (sym q ∙ e ∙ a .0)))
         go (Or m n) a b i = single-joined (sym v ∙ u ∙ ap partsOf (node-inj (sym q ∙ e ∙ a .0)))
@@ -188,9 +123,19 @@ record Split (ops nums nodes : List ℕ) (i : ℕ) (mem : Memory) (k : ℕ) (m n
   right-shaped : ShapedAt n mem (k + 1 + count m)
 
 split-join : (any : Bool) (ops nums nodes : List ℕ) (i : ℕ) (mem : Memory) (k : ℕ) (m n : Mon) → NodesAt ops nums nodes i (joinOf any m n) → ShapedAt (joinOf any m n) mem k → Split ops nums nodes i mem k m n
-unfolding NodesAt ShapedAt
-split-join true ops nums nodes i mem k m n a b = record { left-nodes = a .1; right-nodes = a .2; left-shaped = b .1; right-shaped = b .2 }
-split-join false ops nums nodes i mem k m n a b = record { left-nodes = a .1; right-nodes = a .2; left-shaped = b .1; right-shaped = b .2 }
+unfolding NodesAt Blameless WellShaped readMon
+split-join true ops nums nodes i mem k m n a b = record {
+  left-nodes = a .1;
+  right-nodes = a .2;
+  left-shaped = record { blameless = b .blameless .0; kept = b .kept .0 };
+  right-shaped = record { blameless = b .blameless .1; kept = b .kept .1 };
+}
+split-join false ops nums nodes i mem k m n a b = record {
+  left-nodes = a .1;
+  right-nodes = a .2;
+  left-shaped = record { blameless = b .blameless .0; kept = b .kept .0 };
+  right-shaped = record { blameless = b .blameless .1; kept = b .kept .1 };
+}
 
 abbrev rowNode : Bool → MonNode
 rowNode true = AndNode
@@ -234,8 +179,16 @@ module _ (ops nums nodes : List ℕ) (nfirst : ℕ) (mem : Memory) (any : Bool) 
   pub pair-row : 7 * (nfirst + k + 1) ≤ length nodes
   pair-row = omega (arith, d .in-nodes, count-join any (d .left) (d .right))
 
-  pub left-falls : (t : ℕ) → 2 * (length nodes - 7 * (nfirst + k)) ≡ t → 2 * (length nodes - 7 * (nfirst + (k + 1))) + 1 < t
-  left-falls t h = omega (arith, pair-row)
+  pair-size : monNodes nodes (nfirst + k) ≡ 1 + count (d .left) + count (d .right)
+  pair-size =
+      subtree ops nums nodes (nfirst + k) (joinOf any (d .left) (d .right)) (d .stands) (omega (arith, d .in-nodes))
+      ∙ count-join any (d .left) (d .right)
+
+  pub left-falls : (t : ℕ) → 2 * monNodes nodes (nfirst + k) ≡ t → 2 * monNodes nodes (nfirst + (k + 1)) + 1 < t
+  unfolding left-walk
+  left-falls t h =
+      let e = left-walk in
+      omega (arith, pair-size, subtree ops nums nodes (nfirst + (k + 1)) (d .left) (e .stands) (omega (arith, e .in-nodes)), count-pos (d .right))
 
   pub pair-next-fits : length (mem .held) < 2 ^ 64 → Fits w64 (k + 1)
   pair-next-fits h = record { fits = omega (arith, d .inside .held, count-join any (d .left) (d .right)) }
@@ -266,8 +219,11 @@ module _ (ops nums nodes : List ℕ) (nfirst : ℕ) (mem : Memory) (any : Bool) 
           below = d .below;
         }
 
-    pub right-falls : (t : ℕ) → 2 * (length nodes - 7 * (nfirst + k)) ≡ t → 2 * (length nodes - 7 * (nfirst + l .next)) + 1 < t
-    right-falls t h = omega (arith, left-own .1, pair-row, count-pos (d .left))
+    pub right-falls : (t : ℕ) → 2 * monNodes nodes (nfirst + k) ≡ t → 2 * monNodes nodes (nfirst + l .next) + 1 < t
+    unfolding right-walk
+    right-falls t h =
+        let e = right-walk in
+        omega (arith, pair-size, subtree ops nums nodes (nfirst + l .next) (d .right) (e .stands) (omega (arith, e .in-nodes)), count-pos (d .left))
 
     module _ (mem₂ : Memory) (r : NodeOut) (c′ : NodeStepped ops nums nodes nfirst mem₁ (l .next) s w mem₂ r) where
       pub finish-ready : PairReady mem₂ k (l .next)
@@ -304,11 +260,11 @@ module _ (ops nums nodes : List ℕ) (nfirst : ℕ) (mem : Memory) (any : Bool) 
             let g : get mem₂ k ≡ get mem k = whole k ∙ write-before n (B .state) W₁ (k + 1 + count m) k (omega arith) ∙ write-before m (A .state) mem (k + 1) k (omega arith) in
             let c₁ : get mem₂ (k + 1) .culprit ≡ culprit m (A .state) =
             ap (λ (v : NodeState). v .culprit) (whole (k + 1) ∙ write-before n (B .state) W₁ (k + 1 + count m) (k + 1) (omega (arith, count-pos m)))
-            ∙ culprit-written m (A .state) mem (k + 1) (inside-less mem (k + 1 + count m) (k + 1 + count m + count n) (omega arith) i₀) (p .left-shaped) in
+            ∙ culprit-written m (A .state) mem (k + 1) (inside-less mem (k + 1 + count m) (k + 1 + count m + count n) (omega arith) i₀) (p .left-shaped .blameless) in
             let c₂ : get mem₂ (l .next) .culprit ≡ culprit n (B .state) =
             ap (λ (v : ℕ). get mem₂ v .culprit) y ∙ ap (λ (v : NodeState). v .culprit) (whole (k + 1 + count m))
             ∙ culprit-written n (B .state) W₁ (k + 1 + count m) (inside-write m (A .state) mem (k + 1) (k + 1 + count m + count n) i₀)
-            (shaped-same n mem W₁ (k + 1 + count m) (λ j v v′. sym (write-past m (A .state) mem (k + 1) j v)) (p .right-shaped)) in
+            (blameless-same n mem W₁ (k + 1 + count m) (λ j v v′. sym (write-past m (A .state) mem (k + 1) j v)) (p .right-shaped .blameless)) in
             let eb : b ≡ joinedNow any (A .now) (B .now) = q ∙ ap₂ (joinedNow any) x now₂ in (
               eb ∙ sym (join-step any m n mem k s w .0),
               omega arith,

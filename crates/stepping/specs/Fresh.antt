@@ -1,4 +1,4 @@
--- A fresh monitor as one total function of what is lent.
+-- A fresh monitor as one total function from what is lent to document 01's result and the monitor afterwards.
 use mathlib.Core.Bool.{Bool, true, false}
 use mathlib.Core.List.{List, [], _∷_}
 use mathlib.Core.Option.{Option, none, some}
@@ -6,12 +6,13 @@ use mathlib.Core.Path.{_≡_}
 use Prim.Native.Nat.{ℕ, zero, suc, _+_, _*_, _≤_}
 use lib.ListN.{length, getD, replicate}
 use lib.Seq.{sets}
+use Rattle.result.specs.Result.{Result, given, refused}
 use Rattle.monitor.specs.Mon.{Mon}
 use Rattle.meaning.specs.Culprit.{minus-one}
 use Rattle.stepping.specs.declared.fresh.Outcome.{Outcome}
 use Rattle.stepping.specs.declared.fresh.Outcome.the-variants.{Made, Refused}
-use Rattle.stepping.specs.Memory.{Memory, Inside}
-use Rattle.stepping.specs.Call.{Tables, Monitor, isLent, lentOf, ruleMon}
+use Rattle.node_step.specs.Memory.{Memory, Inside}
+use Rattle.lent.specs.Lent.{Tables, Monitor, lentOf, ruleMon}
 
 -- the numbers in one column of n rows
 unfoldable pub column : List ℕ → ℕ → ℕ → ℕ → List ℕ
@@ -36,20 +37,30 @@ freshOf t k = record {
   memory = cleared (k .memory) (t .ncount);
 }
 
+-- the result that each answer is: the count of the nodes that a monitor was made for, or the refusal
+abbrev pub resultOf : Outcome → Result ℕ
+resultOf (Made n) = given n
+resultOf (Refused n) = refused n
+
+-- and the answer that tells a result
+abbrev pub outcomeOf : Result ℕ → Outcome
+outcomeOf (given n) = Made n
+outcomeOf (refused n) = Refused n
+
 pub record Making : Type 0 where
-  pub answer : Outcome
+  pub answer : Result ℕ
   pub forms : List ℕ
   pub bounds : List ℕ
   pub memory : Memory
 
 abbrev pub refuse : ℕ → List ℕ → List ℕ → Memory → Making
-refuse n forms bounds mem = record { answer = Refused n; forms = forms; bounds = bounds; memory = mem }
+refuse n forms bounds mem = record { answer = refused n; forms = forms; bounds = bounds; memory = mem }
 
 abbrev pub makeMon : Option Mon → Tables → List ℕ → List ℕ → Memory → Making
 makeMon none t forms bounds mem = refuse 2 forms bounds mem
 makeMon (some m) t forms bounds mem =
     let k = freshOf t (record { size = 0; forms = forms; bounds = bounds; memory = mem }) in
-    record { answer = Made (t .ncount); forms = k .forms; bounds = k .bounds; memory = k .memory }
+    record { answer = given (t .ncount); forms = k .forms; bounds = k .bounds; memory = k .memory }
 
 abbrev pub orShort : Bool → List ℕ → List ℕ → Memory → Making → Making
 orShort true forms bounds mem c = c
@@ -57,10 +68,11 @@ orShort false forms bounds mem c = refuse 1 forms bounds mem
 
 -- document 01's answer to making a monitor, for whatever is lent: 1, then 2, else the fresh monitor
 unfoldable pub making : Tables → List ℕ → List ℕ → Memory → Making
-making t forms bounds mem = orShort (lentOf (t .ops) (t .nums) (t .nodes) forms bounds mem) forms bounds mem (makeMon (ruleMon t) t forms bounds mem)
+making t forms bounds mem =
+    orShort (lentOf (t .ops) (t .nums) (t .nodes) forms bounds mem) forms bounds mem (makeMon (ruleMon t) t forms bounds mem)
 
 pub record freshCall (t : Tables) (forms bounds : List ℕ) (mem : Memory) (r : Outcome) (forms′ bounds′ : List ℕ) (mem′ : Memory) : Type 0 where
-  pub answers : r ≡ making t forms bounds mem .answer
+  pub answers : resultOf r ≡ making t forms bounds mem .answer
   pub forms-are : forms′ ≡ making t forms bounds mem .forms
   pub bounds-are : bounds′ ≡ making t forms bounds mem .bounds
   pub memory-is : mem′ ≡ making t forms bounds mem .memory

@@ -1,46 +1,40 @@
 -- The walk of a step over a monitor's nodes: the memory read as the tree's state, and the memory that holds a state.
---     NodesAt     the rows from one on hold the tree's nodes, and its signals stand in the formula table
---     ShapedAt    what is asked of the entries (document 01, refusal 2)
 --     readMon     the tree's state in the memory
+--     ShapedAt    what is asked of the entries
 --     writeMon    the memory that holds a state; what a state does not have, and every other entry, stays as it was
-use mathlib.Core.Bool.{Bool, true, false, _&&_, _||_}
-use mathlib.Core.Bool as bool
+use mathlib.Core.Bool.{Bool, true, false}
 use mathlib.Core.List.{List}
 use mathlib.Core.Path.{_≡_}
 use Prim.Native.Nat.{ℕ, _+_, _*_, _≤_, _<_}
-use lib.IntN.{ℤ}
 use lib.ListN.{length}
+use Rattle.formula.specs.Tree.{Token, leaf-of, two-of, unknown}
+use Rattle.formula.specs.Spells.{nodesAt}
 use Rattle.monitor.specs.declared.node.MonNode.{MonNode}
 use Rattle.monitor.specs.declared.node.MonNode.the-variants.{RangeCheck, DelayedCheck, Obligation, And as AndNode, Or as OrNode}
-use Rattle.monitor.specs.declared.node.Row.the-variants.{Node}
-use Rattle.monitor.specs.Mon.{Check, range-check, delayed-check, obligation, Mon, check, And, Or, count, nodeOf}
+use Rattle.monitor.specs.declared.node.Row.{Row}
+use Rattle.monitor.specs.declared.node.Row.the-variants.{Node, Unknown}
+use Rattle.monitor.specs.Mon.{Check, range-check, delayed-check, obligation, Mon, check, And, Or, count}
 use Rattle.monitor.specs.Table.{rowOf}
 use Rattle.meaning.specs.Culprit.{minus-one}
-use Rattle.meaning.specs.State.{State, Stepped, FromMinusOne, WellKept, step, least, offered, pickCulprit}
-use Rattle.stepping.specs.declared.state.NodeState.{NodeState}
+use Rattle.meaning.specs.State.{State, Stepped, WellShaped, step}
+use Rattle.node_step.specs.declared.state.NodeState.{NodeState}
+use Rattle.node_step.specs.declared.joined.Parts.the-variants.{Single}
+use Rattle.node_step.specs.Memory.{Memory, get, put, Inside}
+use Rattle.node_step.specs.Check.{obligationOf, readCheck, writeCheck, Steppable}
+use Rattle.node_step.specs.Joined.{partsOf, joinedEntry}
+use Rattle.lent.specs.Nodes.{NodesAt}
 use Rattle.stepping.specs.declared.walk.NodeOut.{NodeOut}
-use Rattle.stepping.specs.declared.walk.Parts.{Parts}
-use Rattle.stepping.specs.declared.walk.Parts.the-variants.{Single, Joined}
-use Rattle.stepping.specs.Memory.{Memory, get, put, Inside}
-use Rattle.stepping.specs.Check.{obligationOf, readCheck, writeCheck, GroundedCheck, Steppable}
 
-unfoldable pub NodesAt : List ℕ → List ℕ → List ℕ → ℕ → Mon → Type 0
-NodesAt ops nums nodes i (check c) = (rowOf nodes i ≡ Node (nodeOf c)) × GroundedCheck ops nums c
-NodesAt ops nums nodes i (And m n) =
-    (rowOf nodes i ≡ Node AndNode) × NodesAt ops nums nodes (i + 1) m × NodesAt ops nums nodes (i + 1 + count m) n
-NodesAt ops nums nodes i (Or m n) =
-    (rowOf nodes i ≡ Node OrNode) × NodesAt ops nums nodes (i + 1) m × NodesAt ops nums nodes (i + 1 + count m) n
+-- minus 1 where no step is to blame: always so for range and delayed checks, whose states have no culprit
+abbrev pub BlamelessEntry : Check → NodeState → Type 0
+BlamelessEntry (range-check p r) e = e .culprit ≡ minus-one
+BlamelessEntry (delayed-check p q r) e = e .culprit ≡ minus-one
+BlamelessEntry (obligation b p q r) e = Unit {0}
 
--- minus 1 where no step is to blame: always so for range and delayed checks
-abbrev pub ShapedEntry : Check → NodeState → Type 0
-ShapedEntry (range-check p r) e = e .culprit ≡ minus-one
-ShapedEntry (delayed-check p q r) e = e .culprit ≡ minus-one
-ShapedEntry (obligation b p q r) e = WellKept b (obligationOf e)
-
-unfoldable pub ShapedAt : Mon → Memory → ℕ → Type 0
-ShapedAt (check c) mem i = ShapedEntry c (get mem i)
-ShapedAt (And m n) mem i = FromMinusOne (get mem i .culprit) × ShapedAt m mem (i + 1) × ShapedAt n mem (i + 1 + count m)
-ShapedAt (Or m n) mem i = FromMinusOne (get mem i .culprit) × ShapedAt m mem (i + 1) × ShapedAt n mem (i + 1 + count m)
+unfoldable pub Blameless : Mon → Memory → ℕ → Type 0
+Blameless (check c) mem i = BlamelessEntry c (get mem i)
+Blameless (And m n) mem i = Blameless m mem (i + 1) × Blameless n mem (i + 1 + count m)
+Blameless (Or m n) mem i = Blameless m mem (i + 1) × Blameless n mem (i + 1 + count m)
 
 unfoldable pub readMon : (m : Mon) → Memory → ℕ → State m
 readMon (check c) mem i = readCheck c (get mem i)
@@ -57,8 +51,10 @@ readMon (Or m n) mem i = record {
   culprit = get mem i .culprit;
 }
 
-abbrev pub joinedEntry : Bool → ℤ → NodeState → NodeState
-joinedEntry f c e = record { held = e .held; remaining = e .remaining; failed = f; culprit = c }
+-- what the walk asks of the entries; a monitor that fits has it (`fits-iff`, proofs/Fitting.antt)
+pub record ShapedAt (m : Mon) (mem : Memory) (i : ℕ) : Type 0 where
+  pub blameless : Blameless m mem i
+  pub kept : WellShaped m (readMon m mem i)
 
 unfoldable pub writeMon : (m : Mon) → State m → Memory → ℕ → Memory
 writeMon (check c) st mem i = put mem i (writeCheck c st (get mem i))
@@ -80,18 +76,6 @@ pub record Walkable (ops nums nodes : List ℕ) (nfirst : ℕ) (mem : Memory) (k
 
 pub record NodeStepped (ops nums nodes : List ℕ) (nfirst : ℕ) (mem : Memory) (k s w : ℕ) (mem′ : Memory) (r : NodeOut) : Type 0 where
   pub is : (m : Mon) → NodesAt ops nums nodes (nfirst + k) m → ShapedAt m mem k → Inside mem (k + count m) → (r .now ≡ step m (readMon m mem k) s w .now) × (r .next ≡ k + count m) × (mem′ ≡ writeMon m (step m (readMon m mem k) s w .state) mem k)
-
--- how a node's parts are joined: `and` fails with any part, `or` with all of them
-abbrev pub partsOf : MonNode → Parts
-partsOf (RangeCheck s r) = Single
-partsOf (DelayedCheck s t r) = Single
-partsOf (Obligation b s t r) = Single
-partsOf AndNode = Joined true
-partsOf OrNode = Joined false
-
-abbrev pub joinedNow : Bool → Bool → Bool → Bool
-joinedNow true l r = l || r
-joinedNow false l r = l && r
 
 -- ---- parts of the walk
 -- a check at node k
@@ -115,17 +99,16 @@ pub record Pair (ops nums nodes : List ℕ) (nfirst : ℕ) (mem : Memory) (any :
   pub shaped : ShapedAt (joinOf any left right) mem k
   pub below : s < 9223372036854775808
 
-pub record PairReady (mem : Memory) (k mid : ℕ) : Type 0 where
-  pub first : k < mid
-  pub inside : Inside mem (mid + 1)
+-- ---- the measure of the walk
+-- a row as a token of a tree: a check has no parts, a joined node two
+abbrev pub tokenOf : Row → Token (Unit {0}) (Unit {0}) (Unit {0})
+tokenOf (Node (RangeCheck s r)) = leaf-of tt
+tokenOf (Node (DelayedCheck s t r)) = leaf-of tt
+tokenOf (Node (Obligation b s t r)) = leaf-of tt
+tokenOf (Node AndNode) = two-of tt
+tokenOf (Node OrNode) = two-of tt
+tokenOf Unknown = unknown
 
--- a joined node's entry after its parts have stepped
-abbrev pub joinedOf : NodeState → Bool → Bool → NodeState → Bool → NodeState → NodeState
-joinedOf st now left a right b =
-    joinedEntry (st .failed || now) (pickCulprit (bool.not (st .failed) && now) (least (offered left (a .culprit)) (offered right (b .culprit))) (st .culprit)) st
-
-abbrev pub finished : Memory → ℕ → ℕ → Bool → Bool → Bool → NodeState
-finished mem k mid now left right = joinedOf (get mem k) now left (get mem (k + 1)) right (get mem mid)
-
-pub record Finished (mem : Memory) (k mid : ℕ) (now left right : Bool) (mem′ : Memory) : Type 0 where
-  pub is : mem′ ≡ put mem k (finished mem k mid now left right)
+-- the size of the subtree in the rows from i on (`subtree`, proofs/Subtrees.antt), which falls from a node to its parts
+abbrev pub monNodes : List ℕ → ℕ → ℕ
+monNodes nodes i = nodesAt (λ j. tokenOf (rowOf nodes j)) (length nodes) i

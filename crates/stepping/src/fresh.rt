@@ -1,5 +1,5 @@
 // A fresh monitor: nothing pending, failed or remembered, every culprit minus 1.
-use crate::call::is_lent;
+use lent::room::is_lent;
 use monitor::table::is_compiled;
 ghost use mathlib.Core.Path.{_≡_};
 ghost use mathlib.Core.Bool.{Bool, true, false};
@@ -7,7 +7,7 @@ ghost use Prim.Native.Nat.{_+_, _*_, _≤_};
 ghost use lib.ListN.{length, replicate};
 ghost use lib.Seq.{sets};
 ghost use Rattle.meaning.specs.Culprit.{minus-one};
-ghost use Rattle.stepping.specs.Memory.{Memory};
+ghost use Rattle.node_step.specs.Memory.{Memory};
 ghost use Rattle.stepping.specs.Fresh.{column, MakeReady, Makes, freshOf, freshCall};
 
 // The monitor was made for so many nodes; or the refusal.

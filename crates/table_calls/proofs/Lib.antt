@@ -1,2 +1,2 @@
--- Laws of the entry points.
-pub mod Short
+-- A rule's own places stand for the whole table.
+pub mod Own

@@ -1,4 +1,4 @@
-// Compiling and splitting a rule of a formula table that is lent as a slice of node structs. Each entry point reads the first 1,024 nodes into
+// Compiling and splitting a rule of a formula table that is lent as a slice of node structs. Each entry point reads the rule's own places into
 // columns and hands them on to the core, `compile_formula` or `split`, which callers with plain slices call themselves.
 use compiler::Compiled;
 use compiler::compile_formula;
@@ -27,9 +27,9 @@ fn compile_columns(c: Columns, first: usize, count: usize, out: &mut [u64]) -> C
 
 // Compiles the rule of `count` nodes at `first` into the rows of `out`.
 pub fn compile_table(table: &[FormulaNode], first: usize, count: usize, out: &mut [u64]) -> Compiled
-    ensures { λ r. ⌜ Answers (compileCall (opsOf (take 1024 (now (table .entry)))) (numsOf (take 1024 (now (table .entry)))) first count (now (out .entry))) r (now (out .exit)) ⌝ }
+    ensures { λ r. ⌜ Answers (compileCall (opsOf (now (table .entry))) (numsOf (now (table .entry))) first count (now (out .entry))) r (now (out .exit)) ⌝ }
 {
-    compile_columns(unpack(table), first, count, out)
+    compile_columns(unpack(table, first, count), first, count, out)
 }
 
 // Splits the rule of `count` nodes at `first` of a table in columns.
@@ -42,7 +42,10 @@ fn split_columns(
     owed: &mut [u64],
 ) -> Liveness
     requires { ⌜ Inside c ⌝ }
-    ensures { λ r. ⌜ outcome r (now (skeleton .exit)) (now (owed .exit)) ≡ splitting (take (c .count) (c .ops)) (take (c .count) (c .nums)) first count assumption (now (skeleton .entry)) (now (owed .entry)) ⌝ }
+    ensures { λ r. ⌜
+        outcome r (now (skeleton .exit)) (now (owed .exit))
+        ≡ splitting (take (c .count) (c .ops)) (take (c .count) (c .nums)) first count assumption (now (skeleton .entry)) (now (owed .entry))
+        ⌝ }
 {
     let n = c.count;
     let ops = c.ops;
@@ -67,7 +70,17 @@ pub fn split_table(
     skeleton: &mut [u64],
     owed: &mut [u64],
 ) -> Liveness
-    ensures { λ r. ⌜ outcome r (now (skeleton .exit)) (now (owed .exit)) ≡ splitting (opsOf (take 1024 (now (table .entry)))) (numsOf (take 1024 (now (table .entry)))) first count assumption (now (skeleton .entry)) (now (owed .entry)) ⌝ }
+    ensures { λ r. ⌜
+        outcome r (now (skeleton .exit)) (now (owed .exit))
+        ≡ splitting (opsOf (now (table .entry))) (numsOf (now (table .entry))) first count assumption (now (skeleton .entry)) (now (owed .entry))
+        ⌝ }
 {
-    split_columns(unpack(table), first, count, assumption, skeleton, owed)
+    split_columns(
+        unpack(table, first, count),
+        first,
+        count,
+        assumption,
+        skeleton,
+        owed,
+    )
 }

@@ -9,8 +9,8 @@ use lib.Dec.{leb}
 use lib.ListN.{length, take, drop, length-append, replicate, length-replicate}
 use lib.Seq.{take-at}
 use Rattle.number.specs.Number.{pick}
-use Rattle.book.specs.Book.{Book, Outcome, accepted, refused, read}
-use Rattle.reader.specs.Answer.{Reads, Roomy, answerOf}
+use Rattle.book.specs.Book.{Book, Outcome, accepted, refused, bookResult, read}
+use Rattle.reader.specs.Answer.{Reads, Roomy}
 use Rattle.reader.specs.Tables.{Tables, over, written, roomy, readInto, after}
 use Rattle.reader.specs.declared.read.Answer.{Answer}
 use Rattle.reader.specs.declared.read.Answer.the-variants.{Read, Refused}
@@ -28,7 +28,7 @@ filled a n os ns = record { answer = a; columns = record { count = n; ops = os; 
 
 -- ---- a table of less than 1,024 nodes
 pub short-reads : (text : List ℕ) (t : Tables) → length (t .ops) < 1024 → Reads text t (Refused 1 0) t
-unfolding readInto after answerOf
+unfolding readInto after
 short-reads text t h = go (roomy t) refl
   where
     go : (m : Bool) → roomy t ≡ m → Reads text t (Refused 1 0) t
@@ -69,10 +69,10 @@ module _ (len : ℕ) (text : List ℕ) (l l′ : RuleList) (o₀ n₀ os ns : Li
     same = same-read text (withTable l ops nums) (withTable l o₀ n₀) (same-room l ops nums o₀ n₀ (omega arith) (omega arith) (omega arith) (omega arith))
 
   accepts : (r n h : ℕ) → Reads text (withTable l o₀ n₀) (Read r n h) (withTable l′ os ns) → Fills len text l (filled (Read r n h) n os ns) l′
-  unfolding after answerOf written
+  unfolding after written
   accepts r n h u = record {
     reads = λ ops nums eo en. record {
-      answer = u .answer ∙ ap answerOf (sym (same ops nums eo en));
+      answer = u .answer ∙ ap bookResult (sym (same ops nums eo en));
       tables = tables-eq
           (withTable l′ (front n os ops) (front n ns nums))
           (written b (withTable l ops nums))
@@ -114,10 +114,10 @@ module _ (len : ℕ) (text : List ℕ) (l l′ : RuleList) (o₀ n₀ os ns : Li
       n-nums = n-is ∙ sym (sound .nums-long)
 
   refuses : (m k : ℕ) → Reads text (withTable l o₀ n₀) (Refused m k) (withTable l′ os ns) → Fills len text l (filled (Refused m k) 0 os ns) l′
-  unfolding after answerOf
+  unfolding after
   refuses m k u = record {
     reads = λ ops nums eo en. record {
-      answer = u .answer ∙ ap answerOf (sym (same ops nums eo en));
+      answer = u .answer ∙ ap bookResult (sym (same ops nums eo en));
       tables = tables-eq
           (withTable l′ ops nums)
           (withTable l ops nums)

@@ -1,2 +1,4 @@
--- Laws of the entry points.
-pub mod Short
+-- A rule's own places stand for the whole table, the front of an array is lent, and a monitor's last value.
+pub mod Front
+pub mod Own
+pub mod Told

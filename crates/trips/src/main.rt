@@ -1,8 +1,10 @@
 // Runs the trips of document 01 as any caller would: the book of each is read, its rule compiled, laid out, stepped from a fresh monitor and
-// split, and what the calls answer is printed, one line a trip.
+// split, and what the calls answer is printed, one line a trip. At the end a book of several rules is laid out and its rules are compared.
 use compiler::Compiled;
 use compiler::compile_formula;
+use layout::rule::NodeSlot;
 use layout::rule::RuleBits;
+use layout::rule::node_slot;
 use layout::rule::rule_layout;
 use libc::STDOUT_FILENO;
 use reader::read::Answer;
@@ -16,12 +18,14 @@ use stepping::call::step;
 use stepping::fresh::Outcome;
 use stepping::fresh::fresh;
 
-fn put(s: &[u8]) {
+pub mod several;
+
+pub fn put(s: &[u8]) {
     io::write_all(STDOUT_FILENO, s);
 }
 
 // A number behind a word.
-fn show(word: &[u8], n: u64) {
+pub fn show(word: &[u8], n: u64) {
     put(word);
     io::print_decimal(STDOUT_FILENO, n);
 }
@@ -178,6 +182,48 @@ fn show_reports(
     }
 }
 
+// The bits of one node, where they begin and how many are for what: pending, remaining, the antecedent before.
+fn show_slot(
+    ops: &[u8],
+    nums: &[u64],
+    first: usize,
+    count: usize,
+    nodes: &[u64],
+    nfirst: usize,
+    ncount: usize,
+    j: usize,
+) {
+    show(b", node ", j as u64);
+    match node_slot(ops, nums, first, count, nodes, nfirst, ncount, j) {
+        NodeSlot::Refused(n) => show(b" refused ", n),
+        NodeSlot::At(s) => {
+            let p = s.piece;
+            show(b" at ", s.offset);
+            show(b" bits ", p.pending);
+            show(b"+", p.remaining);
+            show(b"+", p.antecedent);
+        }
+    }
+}
+
+// The first n nodes.
+pub fn show_slots(
+    ops: &[u8],
+    nums: &[u64],
+    first: usize,
+    count: usize,
+    nodes: &[u64],
+    nfirst: usize,
+    ncount: usize,
+    n: usize,
+) {
+    let mut j: usize = 0;
+    while j < n {
+        show_slot(ops, nums, first, count, nodes, nfirst, ncount, j);
+        j += 1;
+    }
+}
+
 // The bits of a compiled rule.
 fn show_bits(ops: &[u8], nums: &[u64], first: usize, count: usize, nodes: &[u64], ncount: usize) {
     match rule_layout(ops, nums, first, count, nodes, 0, ncount) {
@@ -277,6 +323,7 @@ fn run_rule(text: &[u8], steps_at: usize, ops: &[u8], nums: &[u64], first: usize
         Compiled::Nodes(n) => {
             put(b": compile 0");
             show_bits(ops, nums, first, count, &nodes, n);
+            show_slots(ops, nums, first, count, &nodes, 0, n, n);
             show_reports(text, steps_at, ops, nums, first, count, &nodes, n);
         }
     }
@@ -367,4 +414,5 @@ fn main() {
     run_always();
     run_alone();
     run_bounds();
+    several::run(b"several");
 }

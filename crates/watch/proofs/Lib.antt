@@ -1,2 +1,3 @@
 -- Laws of a watch.
 pub mod Watching
+pub mod Saying

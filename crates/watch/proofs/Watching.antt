@@ -11,21 +11,23 @@ use mir.Val.{SFits, toZ, ofZ}
 use mir.Facts.{toZ-ofZ}
 use Rattle.formula.proofs.Cases.{true-false}
 use Rattle.book.specs.Book.{StepLine}
-use Rattle.reader.specs.Steps.{stepsFrom, handed, Hands}
+use Rattle.result.specs.Result.{given}
+use Rattle.reader.specs.Steps.{nextStep, resultOf as stepResult, stepsFrom}
+use Rattle.reader.proofs.StepsOfBook.{none-left, one-more}
 use Rattle.reader.specs.declared.steps.StepRead.{StepRead}
 use Rattle.reader.specs.declared.steps.StepRead.the-variants.{Step, End}
 use Rattle.compiler.specs.declared.Compiled.{Compiled}
 use Rattle.compiler.specs.declared.Compiled.the-variants.{Nodes, Refused as NotCompiled}
-use Rattle.compiler.specs.Compiled.{Answers, compileCall}
+use Rattle.compiler.specs.Compiled.{resultOf, Answers, compileCall}
 use Rattle.stepping.specs.declared.call.Verdict.{Verdict}
 use Rattle.stepping.specs.declared.call.Verdict.the-variants.{Accepted, Refused as NotStepped}
 use Rattle.stepping.specs.declared.fresh.Outcome.{Outcome}
 use Rattle.stepping.specs.declared.fresh.Outcome.the-variants.{Made, Refused as NotMade}
-use Rattle.stepping.specs.Call.{Tables}
+use Rattle.lent.specs.Lent.{Tables}
 use Rattle.in_place.specs.declared.Monitor.{Monitor}
 use Rattle.in_place.specs.declared.step.Advanced.{Advanced}
 use Rattle.in_place.specs.declared.fresh.Started.{Started}
-use Rattle.in_place.specs.InPlace.{stepIn, freshIn}
+use Rattle.in_place.specs.InPlace.{overLists, stepIn, freshIn}
 use Rattle.watch.specs.declared.rule.Watched.{Watched}
 use Rattle.watch.specs.declared.rule.Watched.the-variants.{Quiet, Report, Refused}
 use Rattle.watch.specs.Watch.{rootCulprit, onVerdict, onStep, isEnd, watched, blank, onOutcome, compiledWatched, onCompiled, ruleWatched}
@@ -61,23 +63,20 @@ pub record Left (t : Tables) (m : Monitor) (text : List ℕ) (from : ℕ) (k : M
 pub left-first : (t : Tables) (m : Monitor) (text : List ℕ) (from : ℕ) → Left t m text from m from
 left-first t m text from = record { is = refl }
 
-pub left-end : (t : Tables) (m : Monitor) (text : List ℕ) (from : ℕ) (k : Monitor) (at : ℕ) (r : StepRead) → Left t m text from k at → Hands text at r → r ≡ End → Quiet ≡ watched t m (stepsFrom text from)
+pub left-end : (t : Tables) (m : Monitor) (text : List ℕ) (from : ℕ) (k : Monitor) (at : ℕ) (r : StepRead) → Left t m text from k at → stepResult r ≡ given (nextStep text at) → r ≡ End → Quiet ≡ watched t m (stepsFrom text from)
 unfolding watched
-left-end t m text from k at r l h e = sym (l .is ∙ ap (watched t k) (h .is ∙ ap (handed text) e))
+left-end t m text from k at r l h e = sym (l .is ∙ ap (watched t k) (none-left text at r h e))
 
 -- the next line is step s with truths w
-module _ (t : Tables) (m : Monitor) (text : List ℕ) (from : ℕ) (k : Monitor) (at : ℕ) (r : StepRead) (s w next : ℕ) (h : Hands text at r) (e : r ≡ Step s w next) where
-  one-more : stepsFrom text at ≡ record { number = s; truths = w } ∷ stepsFrom text next
-  one-more = h .is ∙ ap (handed text) e
-
+module _ (t : Tables) (m : Monitor) (text : List ℕ) (from : ℕ) (k : Monitor) (at : ℕ) (r : StepRead) (s w next : ℕ) (h : stepResult r ≡ given (nextStep text at)) (e : r ≡ Step s w next) where
   pub fewer : length (stepsFrom text next) < length (stepsFrom text at)
-  fewer = omega (arith, ap length one-more)
+  fewer = omega (arith, ap length (one-more text at r h s w next e))
 
   module _ (l : Left t m text from k at) (a : Advanced) (d : a ≡ stepIn t k s w) (o : Watched) (g : o ≡ onStep a s Quiet) (b : Bool) (i : b ≡ isEnd o) where
     whole : watched t m (stepsFrom text from) ≡ onStep a s (watched t (a .monitor) (stepsFrom text next))
     unfolding watched
     whole =
-        l .is ∙ ap (watched t k) one-more
+        l .is ∙ ap (watched t k) (one-more text at r h s w next e)
         ∙ sym (ap (λ (x : Advanced). onStep x s (watched t (x .monitor) (stepsFrom text next))) d)
 
     pub left-stops : b ≡ true → o ≡ watched t m (stepsFrom text from)
@@ -101,14 +100,14 @@ made-refused t ls b x n d e f =
 
 module _ (text : List ℕ) (from : ℕ) (ops nums : List ℕ) (first count : ℕ) (a : Compiled) (nodes : List ℕ) (d : Answers (compileCall ops nums first count (replicate 1792 0)) a nodes) (n : ℕ) where
   abbrev at-nodes : List ℕ → ℕ → Watched
-  at-nodes ns k = compiledWatched (record { ops = ops; nums = nums; first = first; count = count; nodes = ns; nfirst = 0; ncount = k }) (stepsFrom text from)
+  at-nodes ns k = compiledWatched (overLists ops nums first count ns 0 k) (stepsFrom text from)
 
-  ends-as : onCompiled a (at-nodes nodes) ≡ ruleWatched text from ops nums first count
+  ends-as : onCompiled (resultOf a) (at-nodes nodes) ≡ ruleWatched text from ops nums first count
   unfolding ruleWatched
   ends-as = λ i. onCompiled (d .answers i) (at-nodes (d .leaves i))
 
-  pub rule-watched : (r : Watched) → a ≡ Nodes n → r ≡ compiledWatched (record { ops = ops; nums = nums; first = first; count = count; nodes = nodes; nfirst = 0; ncount = n }) (stepsFrom text from) → r ≡ ruleWatched text from ops nums first count
-  rule-watched r e f = f ∙ sym (ap (λ (x : Compiled). onCompiled x (at-nodes nodes)) e) ∙ ends-as
+  pub rule-watched : (r : Watched) → a ≡ Nodes n → r ≡ compiledWatched (overLists ops nums first count nodes 0 n) (stepsFrom text from) → r ≡ ruleWatched text from ops nums first count
+  rule-watched r e f = f ∙ sym (ap (λ (x : Compiled). onCompiled (resultOf x) (at-nodes nodes)) e) ∙ ends-as
 
   pub rule-refused : a ≡ NotCompiled n → Refused n ≡ ruleWatched text from ops nums first count
-  rule-refused e = sym (ap (λ (x : Compiled). onCompiled x (at-nodes nodes)) e) ∙ ends-as
+  rule-refused e = sym (ap (λ (x : Compiled). onCompiled (resultOf x) (at-nodes nodes)) e) ∙ ends-as

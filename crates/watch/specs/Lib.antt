@@ -1,2 +1,3 @@
 -- What watching a rule of a book gives.
 pub mod Watch
+pub mod Reports

@@ -8,18 +8,17 @@ use lib.IntN.{ℤ, pos}
 use lib.ListN.{getD, replicate}
 use Rattle.book.specs.Book.{StepLine}
 use Rattle.reader.specs.Steps.{stepsFrom}
-use Rattle.compiler.specs.declared.Compiled.{Compiled}
-use Rattle.compiler.specs.declared.Compiled.the-variants.{Nodes, Refused as NotCompiled}
+use Rattle.result.specs.Result.{Result, given, refused}
 use Rattle.compiler.specs.Compiled.{Call, compileCall}
 use Rattle.stepping.specs.declared.call.Verdict.{Verdict}
 use Rattle.stepping.specs.declared.call.Verdict.the-variants.{Accepted, Refused as NotStepped}
 use Rattle.stepping.specs.declared.fresh.Outcome.{Outcome}
 use Rattle.stepping.specs.declared.fresh.Outcome.the-variants.{Made, Refused as NotMade}
-use Rattle.stepping.specs.Call.{Tables}
+use Rattle.lent.specs.Lent.{Tables}
 use Rattle.in_place.specs.declared.Monitor.{Monitor}
 use Rattle.in_place.specs.declared.step.Advanced.{Advanced}
 use Rattle.in_place.specs.declared.fresh.Started.{Started}
-use Rattle.in_place.specs.InPlace.{stepIn, freshIn}
+use Rattle.in_place.specs.InPlace.{overLists, stepIn, freshIn}
 use Rattle.watch.specs.declared.rule.Watched.{Watched}
 use Rattle.watch.specs.declared.rule.Watched.the-variants.{Quiet, Report, Refused}
 
@@ -66,11 +65,11 @@ onOutcome (NotMade n) w = Refused n
 unfoldable pub compiledWatched : Tables → List StepLine → Watched
 compiledWatched t ls = onOutcome (freshIn t blank .outcome) (watched t (freshIn t blank .monitor) ls)
 
-abbrev pub onCompiled : Compiled → (ℕ → Watched) → Watched
-onCompiled (Nodes n) w = w n
-onCompiled (NotCompiled n) w = Refused n
+abbrev pub onCompiled : Result ℕ → (ℕ → Watched) → Watched
+onCompiled (given n) w = w n
+onCompiled (refused n) w = Refused n
 
 unfoldable pub ruleWatched : List ℕ → ℕ → List ℕ → List ℕ → ℕ → ℕ → Watched
 ruleWatched text from ops nums first count =
     let c : Call = compileCall ops nums first count (replicate 1792 0) in
-    onCompiled (c .answer) (λ n. compiledWatched (record { ops = ops; nums = nums; first = first; count = count; nodes = c .out; nfirst = 0; ncount = n }) (stepsFrom text from))
+    onCompiled (c .answer) (λ n. compiledWatched (overLists ops nums first count (c .out) 0 n) (stepsFrom text from))

@@ -1,14 +1,17 @@
 // watch: reads a book on standard input, compiles its first rule, makes a monitor of it and steps it over the book's steps, monitor and table of node structs
-// lent to each call, and prints `report STEP CULPRIT`, `no report`, or what was refused.
+// lent to each call, and prints `report STEP CULPRIT`, `no report`, or what was refused. Then, for each rule, it prints how many entries and obligations its
+// liveness split has, `no split`, or what was refused.
 mod rule;
 
 use crate::rule::Watched;
 use crate::rule::watch_rule;
+use lending::split_over;
 use lending_read::read_over;
 use libc::STDIN_FILENO;
 use libc::STDOUT_FILENO;
 use node_table::FormulaNode;
 use reader::read::Answer;
+use split::parts::Liveness;
 
 fn put(s: &[u8]) {
     io::write_all(STDOUT_FILENO, s);
@@ -46,6 +49,50 @@ fn show_watched(w: Watched) {
     }
 }
 
+fn show_split(l: Liveness) {
+    match l {
+        Liveness::None => {
+            put(b"no split\n");
+        }
+        Liveness::Parts { skeleton, owed } => {
+            show(b"split ", skeleton as u64);
+            show(b" ", owed as u64);
+            put(b"\n");
+        }
+        Liveness::Refused(n) => {
+            show(b"split refused ", n);
+            put(b"\n");
+        }
+    }
+}
+
+// The splits of `rules` rules, at most 64.
+fn show_splits(
+    rules: usize,
+    kinds: [u8; 64],
+    firsts: [usize; 64],
+    counts: [usize; 64],
+    table: [FormulaNode; 1024],
+) {
+    for r in 0..64 {
+        if rules <= r {
+            return;
+        }
+        let mut skeleton = [0u64; 512];
+        let mut owed = [0u64; 768];
+        let assumption = kinds[r] != 0;
+        let l = split_over(
+            table,
+            firsts[r],
+            counts[r],
+            assumption,
+            &mut skeleton,
+            &mut owed,
+        );
+        show_split(l);
+    }
+}
+
 fn watch_book(text: &[u8]) {
     let mut labels = [0u8; 2048];
     let mut lens = [0usize; 64];
@@ -80,6 +127,7 @@ fn watch_book(text: &[u8]) {
                 return;
             }
             show_watched(watch_rule(text, steps_at, table, firsts[0], counts[0]));
+            show_splits(rules, kinds, firsts, counts, table);
         }
     }
 }

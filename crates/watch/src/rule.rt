@@ -12,9 +12,9 @@ use stepping::call::Verdict;
 use stepping::fresh::Outcome;
 ghost use mathlib.Core.Bool.{cond};
 ghost use mathlib.Core.Path.{_≡_};
-ghost use lib.ListN.{take};
 ghost use Rattle.node_table.specs.Node.{opsOf, numsOf};
 ghost use Rattle.reader.specs.Steps.{stepsFrom};
+ghost use Rattle.table_step.specs.Over.{over};
 ghost use Rattle.watch.specs.declared.rule.Watched.the-variants.{Quiet, Report};
 ghost use Rattle.watch.specs.Watch.{rootCulprit, onVerdict, onStep, isEnd, watched, blank, compiledWatched, ruleWatched};
 
@@ -81,7 +81,7 @@ fn watch_steps(
     nodes: &[u64],
     ncount: usize,
 ) -> Watched
-    ensures { λ r. ⌜ r ≡ watched (record { ops = opsOf (take 1024 table); nums = numsOf (take 1024 table); first = first; count = count; nodes = now (nodes .entry); nfirst = 0; ncount = ncount }) m (stepsFrom (now (text .entry)) from) ⌝ }
+    ensures { λ r. ⌜ r ≡ watched (over table first count (now (nodes .entry)) 0 ncount) m (stepsFrom (now (text .entry)) from) ⌝ }
 {
     let mut k = m;
     let mut at = from;
@@ -131,7 +131,7 @@ fn watch_compiled(
     nodes: &[u64],
     ncount: usize,
 ) -> Watched
-    ensures { λ r. ⌜ r ≡ compiledWatched (record { ops = opsOf (take 1024 table); nums = numsOf (take 1024 table); first = first; count = count; nodes = now (nodes .entry); nfirst = 0; ncount = ncount }) (stepsFrom (now (text .entry)) from) ⌝ }
+    ensures { λ r. ⌜ r ≡ compiledWatched (over table first count (now (nodes .entry)) 0 ncount) (stepsFrom (now (text .entry)) from) ⌝ }
 {
     let started = fresh_over(blank_monitor(), table, first, count, nodes, 0, ncount);
     let outcome = started.outcome;
@@ -154,7 +154,7 @@ pub fn watch_rule(
     first: usize,
     count: usize,
 ) -> Watched
-    ensures { λ r. ⌜ r ≡ ruleWatched (now (text .entry)) from (opsOf (take 1024 table)) (numsOf (take 1024 table)) first count ⌝ }
+    ensures { λ r. ⌜ r ≡ ruleWatched (now (text .entry)) from (opsOf table) (numsOf table) first count ⌝ }
 {
     let mut nodes = [0u64; 1792];
     let answer = compile_over(table, first, count, &mut nodes);

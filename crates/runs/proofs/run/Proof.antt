@@ -7,7 +7,7 @@ use Rattle.runs.proofs.run.Reads as reads
 use Rattle.runs.proofs.run.Lts as lts
 use Rattle.monitor.proofs.table.is_compiled.Reads as is-compiled-reads
 use Rattle.runs.proofs.run_compiled.Reads as run-compiled-reads
-use Rattle.stepping.proofs.call.is_lent.Reads as is-lent-reads
+use Rattle.lent.proofs.room.is_lent.Reads as is-lent-reads
 
 -- src/lib.rt:187:8
 is-lent-requires : tie.Need-is-lent-requires

@@ -39,7 +39,7 @@ use denote.Triple.Entry.{Vals, onEntry}
 use denote.Triple.Spec.{Meets, tripleOf}
 use denote.Triple.Table.{entered, cited}
 use denote.Triple.Walked.{says, Stays, stay-none-slice, stay-none, gave-slice, walkOf, Walks, ends-at, walked, goes-none-slice, goes-none, goes-gave-slice, walk-meets}
-use Rattle.compiler.specs.Compiled.{Answers, compileCall}
+use Rattle.compiler.specs.Compiled.{Answers, Call, compileCall}
 use Rattle.compiler.specs.declared.Compiled.{Compiled}
 use Rattle.compiler.proofs.Compiled as K
 use Rattle.compiler.proofs.Compiled.Laws as K′
@@ -47,7 +47,6 @@ use Rattle.node_table.specs.Node.{opsOf, numsOf}
 use Rattle.node_table.specs.Columns.{Unpacked, Inside}
 use Rattle.node_table.specs.declared.FormulaNode.{FormulaNode}
 use Rattle.node_table.specs.declared.Columns.{Columns}
-use Rattle.node_table.proofs.Filling.{unpacked-inside}
 use Rattle.node_table.proofs.FormulaNode as N
 use Rattle.node_table.proofs.Columns as T
 use Rattle.node_table.proofs.Columns.Laws as T′
@@ -55,6 +54,7 @@ use Rattle.node_table.proofs.unpack as unpack
 use Rattle.node_table.proofs.unpack.Symbol as unpack-def
 use Rattle.node_table.proofs.unpack.Symbol.{name as #unpack}
 use Rattle.node_table.proofs.unpack.Met as unpack-thm
+use Rattle.table_calls.proofs.Own.{compile-own}
 use Rattle.table_calls.proofs.compile_columns as columns
 use Rattle.table_calls.proofs.compile_columns.Symbol as columns-def
 use Rattle.table_calls.proofs.compile_columns.Symbol.{name as #columns}
@@ -75,8 +75,8 @@ module _ {M : Type 1} (𝓤 : URA M) (H : Heap 𝓤) (A : Atoms 𝓤) (mem : Mem
   abbrev OnColumns : Contract 𝓤
   OnColumns = tripleOf 𝓤 H A columns.signature (columns.spec 𝓤 H A mem run)
 
-  unpacked-of : (κ : Lft) (s : RefT (List FormulaNode)) (c : Columns) → ent 𝓤 (ensured 𝓤 H A unpack.ended (unpack.clauses 𝓤 H A mem run) (κ, tt) (s, tt) tt c) (fact 𝓤 (Unpacked (s .now) c))
-  unpacked-of κ s c = exE 𝓤 _ (λ ws. snd∗ 𝓤 (sem 𝓤 H A (lasts unpack.ended (κ, tt) (s, tt) ws)) (fact 𝓤 (Unpacked (s .now) c)))
+  unpacked-of : (κ : Lft) (s : RefT (List FormulaNode)) (f k : ℕ) (c : Columns) → ent 𝓤 (ensured 𝓤 H A unpack.ended (unpack.clauses 𝓤 H A mem run) (κ, tt) (s, (f, (k, tt))) tt c) (fact 𝓤 (Unpacked (s .now) f k c))
+  unpacked-of κ s f k c = exE 𝓤 _ (λ ws. snd∗ 𝓤 (sem 𝓤 H A (lasts unpack.ended (κ, tt) (s, (f, (k, tt))) ws)) (fact 𝓤 (Unpacked (s .now) f k c)))
 
 module _ {M : Type 1} (𝓤 : URA M) (H : Heap 𝓤) (A : Atoms 𝓤) (W : Given 𝓤 H A) (mem : Memory → SProp 𝓤) (run : Routine → Fun 𝓤) (κ κ′ : Lft) (q q′ : Share) (s : RefT (List FormulaNode)) (f k : ℕ) (x : RefT (List ℕ))
     (gs : Room N.the-row (length (s .now))) (gf : f < 2 ^ 64) (gk : k < 2 ^ 64) (gx : Room u64 (length (x .now))) where
@@ -105,7 +105,7 @@ module _ {M : Type 1} (𝓤 : URA M) (H : Heap 𝓤) (A : Atoms 𝓤) (W : Given
   abbrev Answered : List ℕ → List ℕ → Compiled → List ℕ → Type 0
   Answered os ns r zs = Answers (compileCall os ns f k (x .now)) r zs
 
-  exits : (r : Compiled) (w : Val) (zs : List ℕ) → Answered (opsOf (take 1024 (s .now))) (numsOf (take 1024 (s .now))) r zs → length zs ≡ length (x .now)
+  exits : (r : Compiled) (w : Val) (zs : List ℕ) → Answered (opsOf (s .now)) (numsOf (s .now)) r zs → length zs ≡ length (x .now)
       → ent 𝓤 (⋆ 𝓤 H A (‵ (flft κ q) ∷ ‵ (flft κ′ q′) ∷ ‵ Own ∷ ‵ (finally u64 (x .name) zs) ∷ ‵ (K.the-row .own r (w ∷ [])) ∷ [])) (Post w)
   exits r w zs a l =
       qed W (‵ (flft κ q) ∷ ‵ (flft κ′ q′) ∷ ‵ Own ∷ ‵ (finally u64 (x .name) zs) ∷ ‵ (K.the-row .own r (w ∷ [])) ∷ []) ∵
@@ -115,10 +115,12 @@ module _ {M : Type 1} (𝓤 : URA M) (H : Heap 𝓤) (A : Atoms 𝓤) (W : Given
       move ! (1 ∷ 0 ∷ []) $ fjoin ! $ done !
 
   abbrev to-unpack : Unpack 𝓤 H A mem run .Ghost
-  to-unpack = (((κ, tt), (q, tt), tt, (s, tt), (sv ∷ [], tt)), tt)
+  to-unpack = (((κ, tt), (q, tt), tt, (s, (f, (k, tt))), (sv ∷ [], (vint w64 f ∷ [], (vint w64 k ∷ [], tt)))), tt)
 
   goes-unpack : ent 𝓤 (sep 𝓤 (A .lft κ q) (sem 𝓤 H A Own)) (Unpack 𝓤 H A mem run .pre to-unpack)
-  goes-unpack = qed W (‵ (flft κ q) ∷ ‵ Own ∷ []) ∵ nothing ! $ move ! (1 ∷ 0 ∷ []) $ join ! $ nothing ! $ move ! (2 ∷ 0 ∷ []) $ fjoin ! $ move ! (1 ∷ 0 ∷ []) $ join ! $ nothing ! $ move ! (1 ∷ 0 ∷ []) $ done !
+  goes-unpack =
+      qed W (‵ (flft κ q) ∷ ‵ Own ∷ []) ∵ nothing ! $ move ! (1 ∷ 0 ∷ []) $ join ! $
+      nothing ! $ owned ! usize (Is usize) (uint-makes 𝓤 H A W w64) k _ (refl, gk) $ fjoin ! $ owned ! usize (Is usize) (uint-makes 𝓤 H A W w64) f _ (refl, gf) $ fjoin ! $ move ! (2 ∷ 0 ∷ []) $ fjoin ! $ move ! (1 ∷ 0 ∷ []) $ join ! $ nothing ! $ move ! (1 ∷ 0 ∷ []) $ done !
 
   abbrev to-columns : Columns → Val → OnColumns 𝓤 H A mem run .Ghost
   to-columns c v = (((κ′, tt), (q′, tt), tt, (c, (f, (k, (x, tt)))), (v ∷ [], (vint w64 f ∷ [], (vint w64 k ∷ [], (xv ∷ [], tt))))), tt)
@@ -137,16 +139,16 @@ module _ {M : Type 1} (𝓤 : URA M) (H : Heap 𝓤) (A : Atoms 𝓤) (W : Given
         move ! (17 ∷ []) $ fsplit ! $ use1 W (‵ Own ⊛ ‵ Own) (shr-slice-copy 𝓤 H A W (named 0) κ N.the-row .twice s (sv ∷ [])) $ split ! $ move ! (19 ∷ []) $ split ! $
         -- [κ's token; κ′'s; what table owns; again; what the others own; _7; …]
         move ! (0 ∷ 2 ∷ []) $ use2 W (raw (Unpack 𝓤 H A mem run .pre to-unpack)) goes-unpack $
-        calls-at ! fm (Unpack 𝓤 H A mem run) known-unpack to-unpack (and-then ! (load ! (from ! (stop !)) (look ! 16 refl)) (no-more !)) (λ v.
-        use1 W (later (some (λ (c : Columns). ((‵ (flft κ q) ⊛ ‵ ftrue) ⊛ ‵ (T.the-row .own c (v ∷ []))) ⊛ raw (ensured 𝓤 H A unpack.ended (unpack.clauses 𝓤 H A mem run) (κ, tt) (s, tt) tt c)))) (id⊢ 𝓤 _) $ await ! tt $ pick ! (λ c.
-        split ! $ move ! (1 ∷ []) $ use1 W (raw (fact 𝓤 (Unpacked (s .now) c))) (unpacked-of 𝓤 H A mem run κ s c) $ heard ! (Unpacked (s .now) c) (λ u. split ! $ move ! (1 ∷ []) $
+        calls-at ! fm (Unpack 𝓤 H A mem run) known-unpack to-unpack (and-then ! (load ! (from ! (stop !)) (look ! 16 refl)) (and-then ! (load ! (from ! (stop !)) (look ! 14 refl)) (and-then ! (load ! (from ! (stop !)) (look ! 12 refl)) (no-more !)))) (λ v.
+        use1 W (later (some (λ (c : Columns). ((‵ (flft κ q) ⊛ ‵ ftrue) ⊛ ‵ (T.the-row .own c (v ∷ []))) ⊛ raw (ensured 𝓤 H A unpack.ended (unpack.clauses 𝓤 H A mem run) (κ, tt) (s, (f, (k, tt))) tt c)))) (id⊢ 𝓤 _) $ await ! tt $ pick ! (λ c.
+        split ! $ move ! (1 ∷ []) $ use1 W (raw (fact 𝓤 (Unpacked (s .now) f k c))) (unpacked-of 𝓤 H A mem run κ s f k c) $ heard ! (Unpacked (s .now) f k c) (λ u. split ! $ move ! (1 ∷ []) $
         -- [what the columns own; κ's token; κ′'s; what table owns; what the others own; _7; …]
         peeks ! T.the-row (Is T.the-row) (shows 𝓤 H A T.the-row) c (v ∷ []) (λ is.
         land ! (from ! (stop !)) (init ! 9 refl (LL.lawful T.the-type T′.the-laws 𝓤 H A W .typed c _ is .0)) $
         assigns ! (addr ! (from ! (fld ! refl (hop ! (look-in ! 11 (sub ! 0 refl (whole !))) (stop !))))) (from ! (stop !)) (init ! 7 refl (tt, tt)) $
         assigns ! (agg ! (and-then ! (load ! (from ! (stop !)) (look ! 7 refl)) (and-then ! (load ! (from ! (fld ! refl (stop !))) (look-in ! 11 (sub ! 1 refl (whole !)))) (no-more !)))) (from ! (stop !)) (init ! 5 refl (tt, (tt, (record { fits = gx .0 }, tt)))) $
         -- `compile_columns`
-        move ! (2 ∷ 0 ∷ 4 ∷ []) $ use3 W (raw (OnColumns 𝓤 H A mem run .pre (to-columns c v))) (goes-columns c v (unpacked-inside (s .now) c u)) $
+        move ! (2 ∷ 0 ∷ 4 ∷ []) $ use3 W (raw (OnColumns 𝓤 H A mem run .pre (to-columns c v))) (goes-columns c v (u .inside)) $
         calls-at ! fm (OnColumns 𝓤 H A mem run) known-columns (to-columns c v)
         (and-then ! (load ! (from ! (stop !)) (look ! 7 refl)) (and-then ! (load ! (from ! (stop !)) (look ! 13 refl)) (and-then ! (load ! (from ! (stop !)) (look ! 11 refl)) (and-then ! (load ! (from ! (stop !)) (look ! 3 refl)) (no-more !))))) (λ w.
         use1 W (later (some (λ (r : Compiled). ((‵ (flft κ′ q′) ⊛ ‵ ftrue) ⊛ ‵ (K.the-row .own r (w ∷ []))) ⊛ raw (ensured 𝓤 H A columns.ended (columns.clauses 𝓤 H A mem run) (κ′, tt) (c, (f, (k, (x, tt)))) tt r)))) (id⊢ 𝓤 _) $ await ! tt $ pick ! (λ r.
@@ -161,8 +163,8 @@ module _ {M : Type 1} (𝓤 : URA M) (H : Heap 𝓤) (A : Atoms 𝓤) (W : Given
         move ! (4 ∷ []) $ split ! $ move ! (3 ∷ []) $ split ! $ keep ! (2 ∷ 0 ∷ 7 ∷ 5 ∷ 4 ∷ []) $ by ! (exits r w (zs .1 .1 .1 .0) (moved c u r (zs .1 .1 .1 .0) a) l)))))))))))))))))))
       where
         -- what is answered for the columns is answered for the table
-        moved : (c : Columns) → Unpacked (s .now) c → (r : Compiled) (zs : List ℕ) → Answered (take (c .count) (c .ops)) (take (c .count) (c .nums)) r zs → Answered (opsOf (take 1024 (s .now))) (numsOf (take 1024 (s .now))) r zs
-        moved c u r zs a = subst (λ (os : List ℕ). Answered os (numsOf (take 1024 (s .now))) r zs) (u .ops) (subst (λ (ns : List ℕ). Answered (take (c .count) (c .ops)) ns r zs) (u .nums) a)
+        moved : (c : Columns) → Unpacked (s .now) f k c → (r : Compiled) (zs : List ℕ) → Answered (take (c .count) (c .ops)) (take (c .count) (c .nums)) r zs → Answered (opsOf (s .now)) (numsOf (s .now)) r zs
+        moved c u r zs a = subst (λ (z : Call). Answers z r zs) (compile-own (s .now) f k c u (x .now)) a
 
 module _ {M : Type 1} (𝓤 : URA M) (H : Heap 𝓤) (A : Atoms 𝓤) (W : Given 𝓤 H A) (mem : Memory → SProp 𝓤) (run : Routine → Fun 𝓤) where
   compile-table-walks : (C : Calls 𝓤 H) (Λ : Loops 𝓤 H) → FmC 𝓤 H (W .laws) C → Triple 𝓤 (C #unpack) (Unpack 𝓤 H A mem run) → Triple 𝓤 (C #columns) (OnColumns 𝓤 H A mem run)

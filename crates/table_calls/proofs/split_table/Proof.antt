@@ -1,6 +1,6 @@
 -- `table_calls::split_table` meets its contract: a walk of its MIR, by hand. All that it knows of `unpack` and `split_columns` is that each meets its contract.
 -- The outputs are handed on for good, each at its own lifetime, share and ghost name, and what `split_columns` says of their last lists is what is said at exit.
-use mathlib.Core.Path.{_≡_, refl, subst}
+use mathlib.Core.Path.{_≡_, refl, _∙_}
 use mathlib.Core.Bool.{Bool}
 use Prim.Native.Nat.{ℕ, _<_, _^_}
 use mathlib.Core.List.{List, [], _∷_}
@@ -46,7 +46,6 @@ use Rattle.node_table.specs.Node.{opsOf, numsOf}
 use Rattle.node_table.specs.Columns.{Unpacked, Inside}
 use Rattle.node_table.specs.declared.FormulaNode.{FormulaNode}
 use Rattle.node_table.specs.declared.Columns.{Columns}
-use Rattle.node_table.proofs.Filling.{unpacked-inside}
 use Rattle.node_table.proofs.FormulaNode as N
 use Rattle.node_table.proofs.Columns as T
 use Rattle.node_table.proofs.Columns.Laws as T′
@@ -54,6 +53,7 @@ use Rattle.node_table.proofs.unpack as unpack
 use Rattle.node_table.proofs.unpack.Symbol as unpack-def
 use Rattle.node_table.proofs.unpack.Symbol.{name as #unpack}
 use Rattle.node_table.proofs.unpack.Met as unpack-thm
+use Rattle.table_calls.proofs.Own.{split-own}
 use Rattle.table_calls.proofs.split_columns as columns
 use Rattle.table_calls.proofs.split_columns.Symbol as columns-def
 use Rattle.table_calls.proofs.split_columns.Symbol.{name as #columns}
@@ -74,8 +74,8 @@ module _ {M : Type 1} (𝓤 : URA M) (H : Heap 𝓤) (A : Atoms 𝓤) (mem : Mem
   abbrev OnColumns : Contract 𝓤
   OnColumns = tripleOf 𝓤 H A columns.signature (columns.spec 𝓤 H A mem run)
 
-  unpacked-of : (κ : Lft) (s : RefT (List FormulaNode)) (c : Columns) → ent 𝓤 (ensured 𝓤 H A unpack.ended (unpack.clauses 𝓤 H A mem run) (κ, tt) (s, tt) tt c) (fact 𝓤 (Unpacked (s .now) c))
-  unpacked-of κ s c = exE 𝓤 _ (λ ws. snd∗ 𝓤 (sem 𝓤 H A (lasts unpack.ended (κ, tt) (s, tt) ws)) (fact 𝓤 (Unpacked (s .now) c)))
+  unpacked-of : (κ : Lft) (s : RefT (List FormulaNode)) (f k : ℕ) (c : Columns) → ent 𝓤 (ensured 𝓤 H A unpack.ended (unpack.clauses 𝓤 H A mem run) (κ, tt) (s, (f, (k, tt))) tt c) (fact 𝓤 (Unpacked (s .now) f k c))
+  unpacked-of κ s f k c = exE 𝓤 _ (λ ws. snd∗ 𝓤 (sem 𝓤 H A (lasts unpack.ended (κ, tt) (s, (f, (k, tt))) ws)) (fact 𝓤 (Unpacked (s .now) f k c)))
 
 module _ {M : Type 1} (𝓤 : URA M) (H : Heap 𝓤) (A : Atoms 𝓤) (W : Given 𝓤 H A) (mem : Memory → SProp 𝓤) (run : Routine → Fun 𝓤) (κ κ₁ κ₂ : Lft) (q q₁ q₂ : Share)
     (s : RefT (List FormulaNode)) (f : ℕ) (k : ℕ) (m : Bool) (x : RefT (List ℕ)) (y : RefT (List ℕ)) (gs : Room N.the-row (length (s .now))) (gf : f < 2 ^ 64) (gk : k < 2 ^ 64) (gx : Room u64 (length (x .now))) (gy : Room u64 (length (y .now))) where
@@ -101,7 +101,7 @@ module _ {M : Type 1} (𝓤 : URA M) (H : Heap 𝓤) (A : Atoms 𝓤) (W : Given
   abbrev Answered : List ℕ → List ℕ → Liveness → List ℕ → List ℕ → Type 0
   Answered os ns r z₁ z₂ = outcome r z₁ z₂ ≡ splitting os ns f k m (x .now) (y .now)
 
-  exits : (r : Liveness) (w : Val) (z₁ : List ℕ) (z₂ : List ℕ) → Answered (opsOf (take 1024 (s .now))) (numsOf (take 1024 (s .now))) r z₁ z₂ → length z₁ ≡ length (x .now) → length z₂ ≡ length (y .now)
+  exits : (r : Liveness) (w : Val) (z₁ : List ℕ) (z₂ : List ℕ) → Answered (opsOf (s .now)) (numsOf (s .now)) r z₁ z₂ → length z₁ ≡ length (x .now) → length z₂ ≡ length (y .now)
       → ent 𝓤 (⋆ 𝓤 H A (‵ (flft κ q) ∷ (‵ (flft κ₁ q₁) ⊛ (‵ (flft κ₂ q₂) ⊛ ‵ ftrue)) ∷ ‵ Own ∷ ‵ (finally u64 (x .name) z₁) ∷ ‵ (finally u64 (y .name) z₂) ∷ ‵ (K.the-row .own r (w ∷ [])) ∷ [])) (Post w)
   exits r w z₁ z₂ a l₁ l₂ =
       qed W (‵ (flft κ q) ∷ (‵ (flft κ₁ q₁) ⊛ (‵ (flft κ₂ q₂) ⊛ ‵ ftrue)) ∷ ‵ Own ∷ ‵ (finally u64 (x .name) z₁) ∷ ‵ (finally u64 (y .name) z₂) ∷ ‵ (K.the-row .own r (w ∷ [])) ∷ []) ∵
@@ -109,10 +109,12 @@ module _ {M : Type 1} (𝓤 : URA M) (H : Heap 𝓤) (A : Atoms 𝓤) (W : Given
       nothing ! $ move ! (3 ∷ 0 ∷ []) $ fjoin ! $ move ! (2 ∷ 0 ∷ []) $ fjoin ! $ owned ! Boolean (Is Boolean) (bool-makes 𝓤 H A W) m _ refl $ fjoin ! $ owned ! usize (Is usize) (uint-makes 𝓤 H A W w64) k _ (refl, gk) $ fjoin ! $ owned ! usize (Is usize) (uint-makes 𝓤 H A W w64) f _ (refl, gf) $ fjoin ! $ move ! (1 ∷ 0 ∷ []) $ fjoin ! $ done !
 
   abbrev to-unpack : Unpack 𝓤 H A mem run .Ghost
-  to-unpack = (((κ, tt), (q, tt), tt, (s, tt), (sv ∷ [], tt)), tt)
+  to-unpack = (((κ, tt), (q, tt), tt, (s, (f, (k, tt))), (sv ∷ [], (vint w64 f ∷ [], (vint w64 k ∷ [], tt)))), tt)
 
   goes-unpack : ent 𝓤 (sep 𝓤 (A .lft κ q) (sem 𝓤 H A Own)) (Unpack 𝓤 H A mem run .pre to-unpack)
-  goes-unpack = qed W (‵ (flft κ q) ∷ ‵ Own ∷ []) ∵ nothing ! $ move ! (1 ∷ 0 ∷ []) $ join ! $ nothing ! $ move ! (2 ∷ 0 ∷ []) $ fjoin ! $ move ! (1 ∷ 0 ∷ []) $ join ! $ nothing ! $ move ! (1 ∷ 0 ∷ []) $ done !
+  goes-unpack =
+      qed W (‵ (flft κ q) ∷ ‵ Own ∷ []) ∵ nothing ! $ move ! (1 ∷ 0 ∷ []) $ join ! $
+      nothing ! $ owned ! usize (Is usize) (uint-makes 𝓤 H A W w64) k _ (refl, gk) $ fjoin ! $ owned ! usize (Is usize) (uint-makes 𝓤 H A W w64) f _ (refl, gf) $ fjoin ! $ move ! (2 ∷ 0 ∷ []) $ fjoin ! $ move ! (1 ∷ 0 ∷ []) $ join ! $ nothing ! $ move ! (1 ∷ 0 ∷ []) $ done !
 
   abbrev to-columns : Columns → Val → OnColumns 𝓤 H A mem run .Ghost
   to-columns c v = (((κ₁, (κ₂, tt)), (q₁, (q₂, tt)), tt, (c, (f, (k, (m, (x, (y, tt)))))), (v ∷ [], (vint w64 f ∷ [], (vint w64 k ∷ [], (vbool m ∷ [], (sliceVal (x .ptr) (length (x .now)) ∷ [], (sliceVal (y .ptr) (length (y .now)) ∷ [], tt))))))), tt)
@@ -131,9 +133,9 @@ module _ {M : Type 1} (𝓤 : URA M) (H : Heap 𝓤) (A : Atoms 𝓤) (W : Given
         move ! (25 ∷ []) $ fsplit ! $ use1 W (‵ Own ⊛ ‵ Own) (shr-slice-copy 𝓤 H A W (named 0) κ N.the-row .twice s (sv ∷ [])) $ split ! $ move ! (27 ∷ []) $ split ! $
         -- [κ's token; the other tokens; what table owns; again; what the others own; _11; …]
         move ! (0 ∷ 2 ∷ []) $ use2 W (raw (Unpack 𝓤 H A mem run .pre to-unpack)) goes-unpack $
-        calls-at ! fm (Unpack 𝓤 H A mem run) known-unpack to-unpack (and-then ! (load ! (from ! (stop !)) (look ! 24 refl)) (no-more !)) (λ v.
-        use1 W (later (some (λ (c : Columns). ((‵ (flft κ q) ⊛ ‵ ftrue) ⊛ ‵ (T.the-row .own c (v ∷ []))) ⊛ raw (ensured 𝓤 H A unpack.ended (unpack.clauses 𝓤 H A mem run) (κ, tt) (s, tt) tt c)))) (id⊢ 𝓤 _) $ await ! tt $ pick ! (λ c.
-        split ! $ move ! (1 ∷ []) $ use1 W (raw (fact 𝓤 (Unpacked (s .now) c))) (unpacked-of 𝓤 H A mem run κ s c) $ heard ! (Unpacked (s .now) c) (λ u. split ! $ move ! (1 ∷ []) $
+        calls-at ! fm (Unpack 𝓤 H A mem run) known-unpack to-unpack (and-then ! (load ! (from ! (stop !)) (look ! 24 refl)) (and-then ! (load ! (from ! (stop !)) (look ! 22 refl)) (and-then ! (load ! (from ! (stop !)) (look ! 20 refl)) (no-more !)))) (λ v.
+        use1 W (later (some (λ (c : Columns). ((‵ (flft κ q) ⊛ ‵ ftrue) ⊛ ‵ (T.the-row .own c (v ∷ []))) ⊛ raw (ensured 𝓤 H A unpack.ended (unpack.clauses 𝓤 H A mem run) (κ, tt) (s, (f, (k, tt))) tt c)))) (id⊢ 𝓤 _) $ await ! tt $ pick ! (λ c.
+        split ! $ move ! (1 ∷ []) $ use1 W (raw (fact 𝓤 (Unpacked (s .now) f k c))) (unpacked-of 𝓤 H A mem run κ s f k c) $ heard ! (Unpacked (s .now) f k c) (λ u. split ! $ move ! (1 ∷ []) $
         -- [what the columns own; κ's token; the other tokens; what table owns; what the others own; _11; …]
         peeks ! T.the-row (Is T.the-row) (shows 𝓤 H A T.the-row) c (v ∷ []) (λ is.
         land ! (from ! (stop !)) (init ! 13 refl (LL.lawful T.the-type T′.the-laws 𝓤 H A W .typed c _ is .0)) $
@@ -142,7 +144,7 @@ module _ {M : Type 1} (𝓤 : URA M) (H : Heap 𝓤) (A : Atoms 𝓤) (W : Given
         assigns ! (addr ! (from ! (fld ! refl (hop ! (look-in ! 15 (sub ! 0 refl (whole !))) (stop !))))) (from ! (stop !)) (init ! 7 refl (tt, tt)) $
         assigns ! (agg ! (and-then ! (load ! (from ! (stop !)) (look ! 7 refl)) (and-then ! (load ! (from ! (fld ! refl (stop !))) (look-in ! 15 (sub ! 1 refl (whole !)))) (no-more !)))) (from ! (stop !)) (init ! 5 refl (tt, (tt, (record { fits = gy .0 }, tt)))) $
         -- `split_columns`
-        move ! (2 ∷ 0 ∷ 4 ∷ []) $ use3 W (raw (OnColumns 𝓤 H A mem run .pre (to-columns c v))) (goes-columns c v (unpacked-inside (s .now) c u)) $
+        move ! (2 ∷ 0 ∷ 4 ∷ []) $ use3 W (raw (OnColumns 𝓤 H A mem run .pre (to-columns c v))) (goes-columns c v (u .inside)) $
         calls-at ! fm (OnColumns 𝓤 H A mem run) known-columns (to-columns c v)
         (and-then ! (load ! (from ! (stop !)) (look ! 11 refl)) (and-then ! (load ! (from ! (stop !)) (look ! 21 refl)) (and-then ! (load ! (from ! (stop !)) (look ! 19 refl)) (and-then ! (load ! (from ! (stop !)) (look ! 17 refl)) (and-then ! (load ! (from ! (stop !)) (look ! 7 refl)) (and-then ! (load ! (from ! (stop !)) (look ! 3 refl)) (no-more !))))))) (λ w.
         use1 W (later (some (λ (r : Liveness). ((‵ (flft κ₁ q₁) ⊛ (‵ (flft κ₂ q₂) ⊛ ‵ ftrue)) ⊛ ‵ (K.the-row .own r (w ∷ []))) ⊛ raw (ensured 𝓤 H A columns.ended (columns.clauses 𝓤 H A mem run) (κ₁, (κ₂, tt)) (c, (f, (k, (m, (x, (y, tt)))))) tt r)))) (id⊢ 𝓤 _) $ await ! tt $ pick ! (λ r.
@@ -157,8 +159,8 @@ module _ {M : Type 1} (𝓤 : URA M) (H : Heap 𝓤) (A : Atoms 𝓤) (W : Given
         move ! (5 ∷ []) $ split ! $ keep ! (0 ∷ 3 ∷ 7 ∷ 6 ∷ 5 ∷ 2 ∷ []) $ by ! (exits r w (zs .1 .1 .1 .1 .0) (zs .1 .1 .1 .1 .1 .0) (moved c u r (zs .1 .1 .1 .1 .0) (zs .1 .1 .1 .1 .1 .0) a) l₁ l₂))))))))))))))))))))))))
       where
         -- what is answered for the columns is answered for the table
-        moved : (c : Columns) → Unpacked (s .now) c → (r : Liveness) (z₁ : List ℕ) (z₂ : List ℕ) → Answered (take (c .count) (c .ops)) (take (c .count) (c .nums)) r z₁ z₂ → Answered (opsOf (take 1024 (s .now))) (numsOf (take 1024 (s .now))) r z₁ z₂
-        moved c u r z₁ z₂ a = subst (λ (os : List ℕ). Answered os (numsOf (take 1024 (s .now))) r z₁ z₂) (u .ops) (subst (λ (ns : List ℕ). Answered (take (c .count) (c .ops)) ns r z₁ z₂) (u .nums) a)
+        moved : (c : Columns) → Unpacked (s .now) f k c → (r : Liveness) (z₁ : List ℕ) (z₂ : List ℕ) → Answered (take (c .count) (c .ops)) (take (c .count) (c .nums)) r z₁ z₂ → Answered (opsOf (s .now)) (numsOf (s .now)) r z₁ z₂
+        moved c u r z₁ z₂ a = a ∙ split-own (s .now) f k c u m (x .now) (y .now)
 
 module _ {M : Type 1} (𝓤 : URA M) (H : Heap 𝓤) (A : Atoms 𝓤) (W : Given 𝓤 H A) (mem : Memory → SProp 𝓤) (run : Routine → Fun 𝓤) where
   split-table-walks : (C : Calls 𝓤 H) (Λ : Loops 𝓤 H) → FmC 𝓤 H (W .laws) C → Triple 𝓤 (C #unpack) (Unpack 𝓤 H A mem run) → Triple 𝓤 (C #columns) (OnColumns 𝓤 H A mem run)

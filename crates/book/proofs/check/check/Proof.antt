@@ -1,4 +1,4 @@
-use Rattle.book.proofs.Checks.{check-long, check-ended, check-unended}
+use Rattle.book.proofs.Checks.{check-long, check-lined, check-ended, check-unended}
 use borrow.Author.Needs.{needs}
 use Rattle.book.proofs.check.check.Statement.{statement}
 use Rattle.book.proofs.check.check.Tie as tie
@@ -17,7 +17,7 @@ is-ended-requires c κs = search needs
 
 -- src/check.rt:81:9
 check-lines-requires : tie.Need-check-lines-requires
-check-lines-requires c κs = search needs
+check-lines-requires c κs = search (needs, check-lined)
 
 -- src/check.rt:81:9
 returns-2 : tie.Need-returns-2

@@ -1,32 +1,29 @@
-use Rattle.cavewatch_c.proofs.Exported.{line-short, line-told}
+use Rattle.cavewatch_c.proofs.Exported.{line-told}
 use borrow.Author.Needs.{needs}
 use Rattle.cavewatch_c.proofs.books.cavewatch_next_step.Statement.{statement}
 use Rattle.cavewatch_c.proofs.books.cavewatch_next_step.Tie as tie
 use Rattle.cavewatch_c.proofs.books.cavewatch_next_step.Reads as reads
 use Rattle.cavewatch_c.proofs.books.cavewatch_next_step.Lts as lts
+use Rattle.cavewatch_c.proofs.tell.say.Reads as say-reads
 use Rattle.cavewatch_c.proofs.tell.tell_line.Reads as tell-line-reads
 use Rattle.reader.proofs.steps.next_step.Reads as next-step-reads
 
--- src/books.rt:37:9
+-- src/books.rt:35:9
 next-step-requires : tie.Need-next-step-requires
 next-step-requires c κs = search needs
 
--- src/books.rt:39:9
-returns : tie.Need-returns
-returns c = search (needs, line-short)
-
--- src/books.rt:41:5
+-- src/books.rt:36:9
 tell-line-requires : tie.Need-tell-line-requires
 tell-line-requires c κs = search needs
 
--- src/books.rt:33:1
-same-length : tie.Need-same-length
-same-length c = search needs
+-- src/books.rt:36:5
+say-requires : tie.Need-say-requires
+say-requires c κs = search needs
 
--- src/books.rt:33:1
-returns-2 : tie.Need-returns-2
-returns-2 c = search (needs, line-told)
+-- src/books.rt:31:1
+returns : tie.Need-returns
+returns c = search (needs, line-told)
 
 pub cavewatch-next-step-spec : {M : Type 1} → statement M
 cavewatch-next-step-spec =
-    tie.close (tie.spec next-step-requires returns tell-line-requires same-length returns-2)
+    tie.close (tie.spec next-step-requires tell-line-requires say-requires returns)

@@ -1,4 +1,4 @@
-use Rattle.cavewatch_c.proofs.Telling.{told-verdict}
+use Rattle.cavewatch_c.proofs.Telling.{told-verdict, told-unstepped}
 use borrow.Author.Needs.{needs}
 use Rattle.cavewatch_c.proofs.tell.tell_verdict.Statement.{statement}
 use Rattle.cavewatch_c.proofs.tell.tell_verdict.Tie as tie
@@ -6,25 +6,25 @@ use Rattle.cavewatch_c.proofs.tell.tell_verdict.Reads as reads
 use Rattle.cavewatch_c.proofs.tell.tell_verdict.Lts as lts
 use Rattle.cavewatch_c.proofs.tell.report_code.Reads as report-code-reads
 
--- src/tell.rt:100:27
+-- src/tell.rt:101:27
 enum-known-verdict : tie.Need-enum-known-verdict
 enum-known-verdict c = search needs
 
--- src/tell.rt:100:37
+-- src/tell.rt:101:37
 report-code-requires : tie.Need-report-code-requires
 report-code-requires c κs = search needs
 
--- src/tell.rt:101:26
+-- src/tell.rt:102:26
 enum-known-verdict-2 : tie.Need-enum-known-verdict-2
 enum-known-verdict-2 c = search needs
 
--- src/tell.rt:96:1
+-- src/tell.rt:97:1
 returns : tie.Need-returns
-returns c = search (needs, told-verdict)
+returns c = search (needs, told-verdict, told-unstepped)
 
--- src/tell.rt:96:1
+-- src/tell.rt:97:1
 returns-2 : tie.Need-returns-2
-returns-2 c = search needs
+returns-2 c = search (needs, told-verdict, told-unstepped)
 
 pub tell-verdict-spec : {M : Type 1} → statement M
 tell-verdict-spec =

@@ -1,5 +1,5 @@
-use Prim.Native.Nat.{_+_, _*_, _-_}
-use lib.ListN.{length}
+use Prim.Native.Nat.{_+_, _*_}
+use Rattle.formula.specs.Signal.{signalNodes}
 use Rattle.formula.proofs.Signals.{valued-leaf, valued-not, valued-two, sig-in-ops, sig-in-nums, sig-small, sig-next, sig-falls, sig-right, sig-falls-right}
 use borrow.Author.Needs.{needs}
 use Prim.Native.Nat.{ℕ, _<_}
@@ -20,13 +20,13 @@ use Rattle.formula.proofs.signal.+apart_at+node_at+value_at.{statement}
 use Rattle.formula.proofs.signal.+apart_at+node_at+value_at.Tie.{close}
 
 abbrev μ-apart-at : Measures 2 apart-at-kinds.ps ℕ
-μ-apart-at κs a = 3 * (length (a .0 .now) - a .1 .1 .0) + 1
+μ-apart-at κs a = 3 * signalNodes (a .0 .now) (a .1 .0 .now) (a .1 .1 .0) + 1
 
 abbrev μ-node-at : Measures 2 node-at-kinds.ps ℕ
-μ-node-at κs a = 3 * (length (a .0 .now) - a .1 .1 .0)
+μ-node-at κs a = 3 * signalNodes (a .0 .now) (a .1 .0 .now) (a .1 .1 .0)
 
 abbrev μ-value-at : Measures 2 value-at-kinds.ps ℕ
-μ-value-at κs a = 3 * (length (a .0 .now) - a .1 .1 .0) + 2
+μ-value-at κs a = 3 * signalNodes (a .0 .now) (a .1 .0 .now) (a .1 .1 .0) + 2
 
 abbrev apart-at-at : ℕ → In 2 apart-at-kinds.ps
 apart-at-at t = and 2 apart-at-kinds.ps (is 2 apart-at-kinds.ps μ-apart-at t) apart-at.Pre

@@ -1,8 +1,8 @@
 use borrow.Author.Needs.{needs}
-use Prim.Native.Nat.{ℕ, _-_, _<_}
-use lib.ListN.{length}
-use Rattle.formula.proofs.Places.{in-ops, placed-left, falls-next}
-use Rattle.formula.proofs.Signals.{purely-until, purely-leaf, purely-not, purely-temporal, purely-left, purely-two, placed-not, placed-behind, falls-behind}
+use Prim.Native.Nat.{ℕ, _<_}
+use Rattle.formula.specs.Signal.{signalNodes}
+use Rattle.formula.proofs.Places.{in-ops, placed-left, fewer-left}
+use Rattle.formula.proofs.Signals.{purely-until, purely-leaf, purely-not, purely-temporal, purely-left, purely-two, placed-not, fewer-not, placed-behind, fewer-behind}
 use borrow.Fn.Kinds.{In}
 use borrow.Fn.PlainCycle.{Measures, is, falls, and}
 use Rattle.formula.proofs.signal.pure_at.Reads as pure-at
@@ -12,7 +12,7 @@ use Rattle.formula.proofs.signal.+pure_at.{statement}
 use Rattle.formula.proofs.signal.+pure_at.Tie.{close}
 
 abbrev μ-pure-at : Measures 2 pure-at-kinds.ps ℕ
-μ-pure-at κs a = length (a .0 .now) - a .1 .1 .0
+μ-pure-at κs a = signalNodes (a .0 .now) (a .1 .0 .now) (a .1 .1 .0)
 
 abbrev pure-at-at : ℕ → In 2 pure-at-kinds.ps
 pure-at-at t = and 2 pure-at-kinds.ps (is 2 pure-at-kinds.ps μ-pure-at t) pure-at.Pre
@@ -54,7 +54,7 @@ pure-at-pure-at-requires : (t : ℕ) → pure-at-lts.Need-pure-at-requires (
   pure-at-below t,
   pure-at.Post,
 ) (pure-at-at t) pure-at.Post
-pure-at-pure-at-requires t c κs = search (needs, placed-not, falls-next)
+pure-at-pure-at-requires t c κs = search (needs, placed-not, fewer-not)
 
 -- src/signal.rt:23:9
 pure-at-returns-3 :
@@ -79,7 +79,7 @@ pure-at-pure-at-requires-2 : (t : ℕ) → pure-at-lts.Need-pure-at-requires-2 (
   pure-at-below t,
   pure-at.Post,
 ) (pure-at-at t) pure-at.Post
-pure-at-pure-at-requires-2 t c κs = search (needs, placed-left, falls-next)
+pure-at-pure-at-requires-2 t c κs = search (needs, placed-left, fewer-left)
 
 -- src/signal.rt:29:20
 pure-at-enum-known-left : (t : ℕ) → pure-at-lts.Need-enum-known-left (
@@ -105,7 +105,7 @@ pure-at-pure-at-requires-3 : (t : ℕ) → pure-at-lts.Need-pure-at-requires-3 (
   pure-at-below t,
   pure-at.Post,
 ) (pure-at-at t) pure-at.Post
-pure-at-pure-at-requires-3 t c κs = search (needs, placed-behind, falls-behind)
+pure-at-pure-at-requires-3 t c κs = search (needs, placed-behind, fewer-behind)
 
 -- src/signal.rt:11:1
 pure-at-returns-6 :

@@ -1,5 +1,5 @@
 use borrow.Author.Needs.{needs}
-use Rattle.formula.proofs.Rules.{too-many, past-ops, past-ops-from, past-nums, no-tree, other-end, whole}
+use Rattle.formula.proofs.Rules.{too-many, past-table, past-ops, past-nums, no-tree, other-end, whole}
 use Rattle.formula.proofs.table.is_rule.Statement.{statement}
 use Rattle.formula.proofs.table.is_rule.Tie as tie
 use Rattle.formula.proofs.table.is_rule.Reads as reads
@@ -10,29 +10,25 @@ use Rattle.formula.proofs.table.tree_at.Reads as tree-at-reads
 returns : tie.Need-returns
 returns c = search (needs, too-many)
 
+-- src/table.rt:52:8
+sub-if2 : tie.Need-sub-if2
+sub-if2 c = search needs
+
 -- src/table.rt:53:9
 returns-2 : tie.Need-returns-2
-returns-2 c = search (needs, past-ops)
+returns-2 c = search (needs, past-table)
 
--- src/table.rt:55:8
-sub-if3 : tie.Need-sub-if3
-sub-if3 c = search needs
-
--- src/table.rt:56:9
-returns-3 : tie.Need-returns-3
-returns-3 c = search (needs, past-ops-from)
-
--- src/table.rt:58:21
-add-if4 : tie.Need-add-if4
-add-if4 c = search needs
-
--- src/table.rt:59:9
-returns-4 : tie.Need-returns-4
-returns-4 c = search (needs, past-nums)
-
--- src/table.rt:61:15
+-- src/table.rt:55:15
 add-end : tie.Need-add-end
 add-end c = search needs
+
+-- src/table.rt:57:9
+returns-3 : tie.Need-returns-3
+returns-3 c = search (needs, past-ops)
+
+-- src/table.rt:60:9
+returns-4 : tie.Need-returns-4
+returns-4 c = search (needs, past-nums)
 
 -- src/table.rt:62:25
 tree-at-requires : tie.Need-tree-at-requires
@@ -63,12 +59,11 @@ is-rule-spec =
     tie.close
     (tie.spec
     returns
+    sub-if2
     returns-2
-    sub-if3
-    returns-3
-    add-if4
-    returns-4
     add-end
+    returns-3
+    returns-4
     tree-at-requires
     enum-known-e
     enum-told

@@ -45,7 +45,7 @@ use denote.Triple.Table.{entered, cited}
 use denote.Triple.Walked.{says, Stays, stay-ref, stay-none, stay-none-slice, walkOf, goes-ref, goes-none, goes-none-slice, Walks, ends-at, walked, walk-meets}
 use denote.Exit.{yes}
 use denote.Triple.Clauses.{ensured, lasts}
-use Rattle.stepping.specs.Call.{Tables}
+use Rattle.lent.specs.Lent.{Tables}
 use Rattle.in_place.specs.declared.Monitor.{Monitor}
 use Rattle.in_place.specs.declared.step.Advanced.{Advanced}
 use Rattle.in_place.specs.InPlace.{stepIn}

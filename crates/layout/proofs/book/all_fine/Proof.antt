@@ -1,6 +1,6 @@
 use Rattle.layout.proofs.Books.{Fining, fining-none, fining-all, fining-in, fining-false, fining-more}
 use borrow.Author.Tests.{not-true, not-false}
-use Rattle.layout.specs.Entry.{fineOf, monAt}
+use Rattle.layout.specs.Entry.{fineOf, ruleAt, monAt}
 use Prim.Native.Nat.{_-_}
 use borrow.Author.Needs.{needs}
 use Rattle.layout.proofs.book.all_fine.Statement.{statement}
@@ -10,7 +10,7 @@ use Rattle.layout.proofs.book.all_fine.Lts as lts
 use Rattle.layout.proofs.book.fine_at.Reads as fine-at-reads
 
 abbrev Inv-loop : tie.InvT-loop
-Inv-loop ops nums firsts counts nodes nfirsts ncounts refusals n r₀ r = Fining refusals firsts counts nfirsts ncounts (fineOf refusals (monAt ops nums firsts counts nodes nfirsts ncounts)) n r
+Inv-loop ops nums firsts counts nodes nfirsts ncounts refusals n r₀ r = Fining ops nums refusals firsts counts nfirsts ncounts (fineOf (ruleAt ops nums firsts counts) refusals (monAt ops nums firsts counts nodes nfirsts ncounts)) n r
 
 abbrev μ-loop : tie.MeasureT-loop
 μ-loop ops nums firsts counts nodes nfirsts ncounts refusals n r₀ r = n - r

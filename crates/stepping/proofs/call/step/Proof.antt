@@ -5,7 +5,7 @@ use Rattle.stepping.proofs.call.step.Tie as tie
 use Rattle.stepping.proofs.call.step.Reads as reads
 use Rattle.stepping.proofs.call.step.Lts as lts
 use Rattle.monitor.proofs.table.is_compiled.Reads as is-compiled-reads
-use Rattle.stepping.proofs.call.is_lent.Reads as is-lent-reads
+use Rattle.lent.proofs.room.is_lent.Reads as is-lent-reads
 use Rattle.stepping.proofs.call.step_compiled.Reads as step-compiled-reads
 
 -- src/call.rt:216:8

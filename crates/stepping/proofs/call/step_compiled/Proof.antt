@@ -1,89 +1,69 @@
-use Rattle.stepping.proofs.Calling.{accepted-here, fit-here, known-comparable, not-shaped, other-size, too-late}
+use Rattle.stepping.proofs.Calling.{accepted-here, fit-here, not-fit, too-late}
+use Rattle.lent.proofs.Standings.{known-comparable}
 use borrow.Author.Needs.{needs}
 use Rattle.stepping.proofs.call.step_compiled.Statement.{statement}
 use Rattle.stepping.proofs.call.step_compiled.Tie as tie
 use Rattle.stepping.proofs.call.step_compiled.Reads as reads
 use Rattle.stepping.proofs.call.step_compiled.Lts as lts
-use Rattle.stepping.proofs.call.is_shaped.Reads as is-shaped-reads
+use Rattle.lent.proofs.shape.is_fit.Reads as is-fit-reads
 use Rattle.stepping.proofs.call.step_fit.Reads as step-fit-reads
 
--- src/call.rt:202:12
-is-shaped-requires : tie.Need-is-shaped-requires
-is-shaped-requires c κs = search (needs, known-comparable)
+is-fit-requires : tie.Need-is-fit-requires
+is-fit-requires c κs = search (needs, known-comparable)
 
--- src/call.rt:204:17
 step-fit-requires : tie.Need-step-fit-requires
-step-fit-requires c κs = fit-here _ _ (c .before .before .before .before .before .before .before .before .before .before .before .before .before .before .before .before .before .before .before .before .pre) _ 0 (c .before .before .before .before .before .before .before .before .before .before .before .if1 .taken) _ (c .before .before .before .before .before .before .is-shaped .ensures) (c .before .before .before .before .before .if2 .taken) (c .before .before .before .before .if3 .taken)
+step-fit-requires c κs = fit-here _ _ (c .before .before .before .before .before .before .before .before .before .before .before .before .before .before .before .before .before .before .before .pre) _ 0 _ (c .before .before .before .before .before .before .is-fit .ensures) (c .before .before .before .before .before .if1 .taken) (c .before .before .before .before .if2 .taken)
 
--- src/call.rt:204:17
 same-length : tie.Need-same-length
 same-length c = search needs
 
--- src/call.rt:204:17
 same-length-2 : tie.Need-same-length-2
 same-length-2 c = search needs
 
--- src/call.rt:204:17
 same-length-3 : tie.Need-same-length-3
 same-length-3 c = search needs
 
--- src/call.rt:204:17
 same-length-4 : tie.Need-same-length-4
 same-length-4 c = search needs
 
--- src/call.rt:204:17
 returns : tie.Need-returns
 returns c = search (needs, accepted-here)
 
--- src/call.rt:206:13
 same-length-5 : tie.Need-same-length-5
 same-length-5 c = search needs
 
--- src/call.rt:206:13
 same-length-6 : tie.Need-same-length-6
 same-length-6 c = search needs
 
--- src/call.rt:206:13
 same-length-7 : tie.Need-same-length-7
 same-length-7 c = search needs
 
--- src/call.rt:206:13
 same-length-8 : tie.Need-same-length-8
 same-length-8 c = search needs
 
--- src/call.rt:206:13
 returns-2 : tie.Need-returns-2
 returns-2 c = search (needs, too-late)
 
--- src/call.rt:197:1
 same-length-9 : tie.Need-same-length-9
 same-length-9 c = search needs
 
--- src/call.rt:197:1
 same-length-10 : tie.Need-same-length-10
 same-length-10 c = search needs
 
--- src/call.rt:197:1
 same-length-11 : tie.Need-same-length-11
 same-length-11 c = search needs
 
--- src/call.rt:197:1
 same-length-12 : tie.Need-same-length-12
 same-length-12 c = search needs
 
--- src/call.rt:197:1
 returns-3 : tie.Need-returns-3
-returns-3 c = search (needs, not-shaped)
-
--- src/call.rt:197:1
-returns-4 : tie.Need-returns-4
-returns-4 c = search (needs, other-size)
+returns-3 c = search (needs, not-fit)
 
 pub step-compiled-spec : {M : Type 1} → statement M
 step-compiled-spec =
     tie.close
     (tie.spec
-    is-shaped-requires
+    is-fit-requires
     step-fit-requires
     same-length
     same-length-2
@@ -99,5 +79,4 @@ step-compiled-spec =
     same-length-10
     same-length-11
     same-length-12
-    returns-3
-    returns-4)
+    returns-3)

@@ -5,7 +5,7 @@ use Rattle.stepping.proofs.fresh.fresh.Tie as tie
 use Rattle.stepping.proofs.fresh.fresh.Reads as reads
 use Rattle.stepping.proofs.fresh.fresh.Lts as lts
 use Rattle.monitor.proofs.table.is_compiled.Reads as is-compiled-reads
-use Rattle.stepping.proofs.call.is_lent.Reads as is-lent-reads
+use Rattle.lent.proofs.room.is_lent.Reads as is-lent-reads
 use Rattle.stepping.proofs.fresh.make.Reads as make-reads
 
 -- src/fresh.rt:80:8

@@ -1,6 +1,6 @@
 use mathlib.Core.Path.{_∙_}
-use Prim.Native.Nat.{_+_, _*_, _-_}
-use lib.ListN.{length}
+use Prim.Native.Nat.{_+_, _*_}
+use Rattle.stepping.specs.Walk.{monNodes}
 use Rattle.stepping.proofs.Walking.{left-falls, left-walk, right-falls, right-walk, finish-ready, pair-stepped, pair-next-fits, walk-row, no-row, leaf-ready, pair-ready, walk-falls}
 use borrow.Author.Needs.{needs}
 use Prim.Native.Nat.{ℕ, _<_}
@@ -13,18 +13,18 @@ use Rattle.stepping.proofs.walk.step_pair.Reads as step-pair
 use Rattle.stepping.proofs.walk.step_pair.Kinds as step-pair-kinds
 use Rattle.stepping.proofs.walk.+step_node+step_pair.Lts-step_pair as step-pair-lts
 use Rattle.monitor.proofs.node.row_at.Reads as row-at-reads
-use Rattle.stepping.proofs.walk.finish.Reads as finish-reads
-use Rattle.stepping.proofs.walk.joined_now.Reads as joined-now-reads
-use Rattle.stepping.proofs.walk.parts_of.Reads as parts-of-reads
+use Rattle.node_step.proofs.joined.finish.Reads as finish-reads
+use Rattle.node_step.proofs.joined.joined_now.Reads as joined-now-reads
+use Rattle.node_step.proofs.joined.parts_of.Reads as parts-of-reads
 use Rattle.stepping.proofs.walk.step_leaf.Reads as step-leaf-reads
 use Rattle.stepping.proofs.walk.+step_node+step_pair.{statement}
 use Rattle.stepping.proofs.walk.+step_node+step_pair.Tie.{close}
 
 abbrev μ-step-node : Measures 7 step-node-kinds.ps ℕ
-μ-step-node κs a = 2 * (length (a .1 .1 .0 .now) - 7 * (a .1 .1 .1 .0 + a .1 .1 .1 .1 .1 .1 .1 .1 .0)) + 1
+μ-step-node κs a = 2 * monNodes (a .1 .1 .0 .now) (a .1 .1 .1 .0 + a .1 .1 .1 .1 .1 .1 .1 .1 .0) + 1
 
 abbrev μ-step-pair : Measures 7 step-pair-kinds.ps ℕ
-μ-step-pair κs a = 2 * (length (a .1 .1 .0 .now) - 7 * (a .1 .1 .1 .0 + a .1 .1 .1 .1 .1 .1 .1 .1 .1 .0))
+μ-step-pair κs a = 2 * monNodes (a .1 .1 .0 .now) (a .1 .1 .1 .0 + a .1 .1 .1 .1 .1 .1 .1 .1 .1 .0)
 
 abbrev step-node-at : ℕ → In 7 step-node-kinds.ps
 step-node-at t = and 7 step-node-kinds.ps (is 7 step-node-kinds.ps μ-step-node t) step-node.Pre

@@ -4,7 +4,7 @@ use Rattle.stepping.proofs.walk.step_leaf.Statement.{statement}
 use Rattle.stepping.proofs.walk.step_leaf.Tie as tie
 use Rattle.stepping.proofs.walk.step_leaf.Reads as reads
 use Rattle.stepping.proofs.walk.step_leaf.Lts as lts
-use Rattle.stepping.proofs.check.step_check.Reads as step-check-reads
+use Rattle.node_step.proofs.check.step_check.Reads as step-check-reads
 
 -- src/walk.rt:85:9
 step-check-requires : tie.Need-step-check-requires

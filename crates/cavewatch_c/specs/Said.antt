@@ -1,0 +1,24 @@
+-- How a result is said: the number is the answer, the further numbers stand in front of what `found` held.
+use mathlib.Core.List.{List, [], _∷_}
+use mathlib.Core.Path.{_≡_}
+use Prim.Native.Nat.{ℕ, _≤_}
+use lib.Seq.{sets}
+use Rattle.reader.specs.declared.read.Answer.{Answer}
+use Rattle.reader.specs.declared.read.Answer.the-variants.{Read, Refused}
+use Rattle.cavewatch_c.specs.Numbers.{Told, tell}
+use Rattle.cavewatch_c.specs.declared.tell.Said.{Said}
+use Rattle.cavewatch_c.specs.declared.tell.Said.the-variants.{Number, One, Three}
+
+pub record Says (t : Told) (found : List ℕ) (r : ℕ) (found′ : List ℕ) : Type 0 where
+  pub number-is : r ≡ t .number
+  pub found-is : found′ ≡ sets found 0 (t .numbers)
+
+abbrev pub toldBy : Said → Told
+toldBy (Number n) = tell n []
+toldBy (One n a) = tell n (a ∷ [])
+toldBy (Three a b c) = tell 0 (a ∷ b ∷ c ∷ [])
+
+-- a refusal of a book has a number up to 10 and a line up to 65,535
+abbrev pub SmallLine : Answer → Type 0
+SmallLine (Read r n s) = Unit
+SmallLine (Refused n k) = (n ≤ 10) × (k ≤ 65535)

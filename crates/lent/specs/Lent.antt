@@ -1,0 +1,85 @@
+-- What a call on a monitor is lent: its room (document 01, refusal 1), the rule that the tables hold, and a monitor that fits a rule
+-- (refusal 2). Whether a monitor fits depends on the compiled rule, and not on the table that holds it.
+--     HoldsRule    tables that a call on a monitor of rule m may be lent
+--     Ready        a monitor that a call over such tables takes, below 2^63
+use mathlib.Core.Bool.{Bool, true, _&&_}
+use mathlib.Core.List.{List}
+use mathlib.Core.Option.{Option, some}
+use mathlib.Core.Path.{_≡_}
+use Prim.Native.Nat.{ℕ, _+_, _*_, _≤_}
+use lib.Dec.{eqb, leb}
+use lib.ListN.{length}
+use Rattle.formula.specs.Table.{roomy}
+use Rattle.monitor.specs.Mon.{Mon, count}
+use Rattle.monitor.specs.Table.{compiledOf}
+use Rattle.node_step.specs.Memory.{Memory, Inside}
+use Rattle.lent.specs.Shape.{fitsMon, shapedFrom}
+
+-- the tables of a call: the formula table and the rule's part of it, the node table and the compiled rule's part of it
+pub record Tables : Type 0 where
+  pub ops : List ℕ
+  pub nums : List ℕ
+  pub first : ℕ
+  pub count : ℕ
+  pub nodes : List ℕ
+  pub nfirst : ℕ
+  pub ncount : ℕ
+
+-- a lent monitor: the count of its nodes, their forms and bounds, and their entries
+pub record Monitor : Type 0 where
+  pub size : ℕ
+  pub forms : List ℕ
+  pub bounds : List ℕ
+  pub memory : Memory
+
+-- refusal 1: room for 1,024 formula nodes and for 256 monitor nodes
+abbrev pub hasRoom : Memory → Bool
+hasRoom mem = leb 256 (length (mem .held)) && (leb 256 (length (mem .remaining)) && (leb 256 (length (mem .failed)) && leb 256 (length (mem .culprits))))
+
+abbrev pub tableRoom : List ℕ → List ℕ → List ℕ → Bool
+tableRoom ops nums nodes = leb 1792 (length nodes) && roomy ops nums
+
+abbrev pub monitorRoom : List ℕ → List ℕ → Memory → Bool
+monitorRoom forms bounds mem = leb 256 (length forms) && (leb 256 (length bounds) && hasRoom mem)
+
+abbrev pub lentOf : List ℕ → List ℕ → List ℕ → List ℕ → List ℕ → Memory → Bool
+lentOf ops nums nodes forms bounds mem = tableRoom ops nums nodes && monitorRoom forms bounds mem
+
+abbrev pub isLent : Tables → Monitor → Bool
+isLent t m = lentOf (t .ops) (t .nums) (t .nodes) (m .forms) (m .bounds) (m .memory)
+
+-- the compiled rule that the tables hold
+abbrev pub ruleMon : Tables → Option Mon
+ruleMon t = compiledOf (t .ops) (t .nums) (t .first) (t .count) (t .nodes) (t .nfirst) (t .ncount)
+
+-- the monitor has the rule's count of nodes, and an entry that fits each
+abbrev pub fits : Mon → Monitor → Bool
+fits m k = eqb (k .size) (count m) && fitsMon m (k .forms) (k .bounds) (k .memory) 0
+
+-- tables that hold rule m, and have room
+pub record HoldsRule (t : Tables) (m : Mon) : Type 0 where
+  pub rule : ruleMon t ≡ some m
+  pub room : tableRoom (t .ops) (t .nums) (t .nodes) ≡ true
+
+-- a monitor that fits rule m, and has room
+pub record Ready (k : Monitor) (m : Mon) : Type 0 where
+  pub fit : fits m k ≡ true
+  pub room : monitorRoom (k .forms) (k .bounds) (k .memory) ≡ true
+
+-- the same by n rows of a node table from row `nfirst` on: how the test goes
+abbrev pub rowsFit : List ℕ → ℕ → ℕ → Monitor → Bool
+rowsFit nodes nfirst n k = eqb (k .size) n && shapedFrom nodes nfirst (k .forms) (k .bounds) (k .memory) 0 n
+
+-- ---- what tests and parts of a call ask
+-- n entries can be compared with n rows from row `nfirst` on
+pub record Comparable (nodes : List ℕ) (nfirst : ℕ) (forms bounds : List ℕ) (mem : Memory) (n : ℕ) : Type 0 where
+  pub rows : 7 * (nfirst + n) ≤ length nodes
+  pub forms-in : n ≤ length forms
+  pub bounds-in : n ≤ length bounds
+  pub inside : Inside mem n
+
+-- the tables hold a compiled rule, and all that is lent has room
+pub record Known (t : Tables) (k : Monitor) : Type 0 where
+  pub mon : Mon
+  pub is : ruleMon t ≡ some mon
+  pub lent : isLent t k ≡ true

@@ -1,0 +1,54 @@
+// A node's state in a monitor's memory: for each node a register, what remains of a window, whether it has failed, and its culprit.
+ghost use mathlib.Core.Path.{_≡_};
+ghost use Prim.Native.Nat.{_+_};
+ghost use lib.ListN.{length};
+ghost use Rattle.node_step.specs.Memory.{Memory, get, put, Inside};
+
+// `held`: a delayed check's remembered antecedent, or that an obligation's window is pending.
+pub struct NodeState {
+    pub held: bool,
+    pub remaining: u64,
+    pub failed: bool,
+    pub culprit: i64,
+}
+
+// The state of node i.
+pub fn load(
+    held: &[bool],
+    remaining: &[u64],
+    failed: &[bool],
+    culprits: &[i64],
+    i: usize,
+) -> NodeState
+    requires { ⌜ Inside (record { held = now held; remaining = now remaining; failed = now failed; culprits = now culprits }) (i + 1) ⌝ }
+    ensures { λ r. ⌜ r ≡ get (record { held = now (held .entry); remaining = now (remaining .entry); failed = now (failed .entry); culprits = now (culprits .entry) }) i ⌝ }
+{
+    NodeState {
+        held: held[i],
+        remaining: remaining[i],
+        failed: failed[i],
+        culprit: culprits[i],
+    }
+}
+
+// Stores the state of node i.
+pub fn store(
+    held: &mut [bool],
+    remaining: &mut [u64],
+    failed: &mut [bool],
+    culprits: &mut [i64],
+    i: usize,
+    state: NodeState,
+)
+    requires { ⌜ Inside (record { held = now held; remaining = now remaining; failed = now failed; culprits = now culprits }) (i + 1) ⌝ }
+    ensures { λ _. ⌜ _≡_ {A = Memory} (record { held = now (held .exit); remaining = now (remaining .exit); failed = now (failed .exit); culprits = now (culprits .exit) }) (put (record { held = now (held .entry); remaining = now (remaining .entry); failed = now (failed .entry); culprits = now (culprits .entry) }) i state) ⌝ }
+{
+    let h = state.held;
+    let r = state.remaining;
+    let f = state.failed;
+    let c = state.culprit;
+    held[i] = h;
+    remaining[i] = r;
+    failed[i] = f;
+    culprits[i] = c;
+}

@@ -1,0 +1,2 @@
+-- The result of a call.
+pub mod Result

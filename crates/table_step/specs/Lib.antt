@@ -1,0 +1,2 @@
+-- The tables of a call over node structs.
+pub mod Over
