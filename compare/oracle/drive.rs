@@ -10,7 +10,6 @@ use std::thread;
 use std::time::{Duration, Instant};
 
 use crate::frames;
-use crate::paper;
 
 const SHOWN: usize = 5;
 const KEPT: usize = 50;
@@ -18,7 +17,7 @@ const LIMIT: Duration = Duration::from_secs(20);
 
 pub enum Subject<'a> {
     Program(&'a str),
-    Paper,
+    Paper(fn(&[u8], &mut Vec<u8>)),
 }
 
 struct Work {
@@ -128,9 +127,9 @@ pub fn drive(subject: Subject<'_>, books: &Path, answers: &Path, folder: &Path, 
             };
             let got = match subject {
                 Subject::Program(program) => run(program, &book, running)?,
-                Subject::Paper => {
+                Subject::Paper(list) => {
                     let mut out = Vec::new();
-                    paper::list(&book, &mut out);
+                    list(&book, &mut out);
                     out
                 }
             };

@@ -261,7 +261,7 @@ fn one_letter_signal(signal: &SignalExpr) -> SignalExpr {
     }
 }
 
-fn one_letter(node: &MonNode) -> MonNode {
+pub fn one_letter(node: &MonNode) -> MonNode {
     match node {
         MonNode::RangeCheck { expr, range } => MonNode::RangeCheck {
             expr: one_letter_signal(expr),
@@ -332,11 +332,19 @@ fn module_of(book: &Book<'_>) -> Module {
     module
 }
 
+/// A book's rules as the source takes them: compiled, or one of 11 to 19, and laid out.
+pub struct Compiled {
+    pub plans: Vec<Result<MonitorPlan, u32>>,
+    pub encoding: ConfigEncoding,
+    module: Module,
+    /// where a rule stands in its list of the module
+    places: Vec<usize>,
+}
+
 /// `whole` asks for the layout of the source's `McPlan`, held to that of the plans compiled here;
 /// without it only the second is made (for the bench).
-fn accepted(book: &Book<'_>, whole: bool, out: &mut Vec<u8>) {
+pub fn compile(book: &Book<'_>, whole: bool) -> Compiled {
     let module = module_of(book);
-    // where a rule stands in its list of the module
     let (mut p, mut a) = (0, 0);
     let places: Vec<usize> = book
         .rules
@@ -376,6 +384,21 @@ fn accepted(book: &Book<'_>, whole: bool, out: &mut Vec<u8>) {
         assert_eq!(encoding, plan.encoding, "the two layouts differ");
         encoding = plan.encoding;
     }
+    Compiled {
+        plans,
+        encoding,
+        module,
+        places,
+    }
+}
+
+fn accepted(book: &Book<'_>, whole: bool, out: &mut Vec<u8>) {
+    let Compiled {
+        plans,
+        encoding,
+        module,
+        places,
+    } = compile(book, whole);
     let mut bits: Vec<Option<(u32, u32)>> = vec![None; book.rules.len()];
     for monitor in &encoding.monitors {
         let number: usize = monitor.label.parse().unwrap();

@@ -1,10 +1,10 @@
 //! The oracle: the source's compiling, stepping, layout and liveness behind our reader and printer.
 //!     oracle                       one book on standard input, its listing on standard output
-//!     oracle batch                 books in, answers out, framed (frames.rs)
-//!     oracle paper                 the same by document 01's words alone (paper.rs)
+//!     oracle batch | slots         books in, answers out, framed (frames.rs): listings, or the lines of the program slots (slots.rs)
+//!     oracle paper | paper-slots   the same by document 01's words alone (paper.rs)
 //!     oracle bench N < BOOK        N listings of one book, ns for each
 //!     oracle drive PROGRAM BOOKS ANSWERS FOLDER JOBS      (drive.rs)
-//!     oracle hold BOOKS ANSWERS FOLDER JOBS               the same for paper.rs
+//!     oracle hold paper | paper-slots BOOKS ANSWERS FOLDER JOBS     the same for paper.rs
 
 mod codegen;
 mod json {
@@ -25,6 +25,7 @@ mod drive;
 mod frames;
 mod listing;
 mod paper;
+mod slots;
 
 use std::hint::black_box;
 use std::io::{self, BufReader, BufWriter, Read, Write};
@@ -79,7 +80,9 @@ fn main() -> io::Result<()> {
             io::stdout().lock().write_all(&out)
         }
         ["batch"] => batch(|book, out| listing::list(book, true, out)),
+        ["slots"] => batch(slots::list),
         ["paper"] => batch(paper::list),
+        ["paper-slots"] => batch(paper::slots),
         ["bench", rounds] => bench(rounds.parse().expect("a count")),
         ["drive", program, books, answers, folder, jobs] => {
             let jobs = jobs.parse().expect("a count");
@@ -87,10 +90,11 @@ fn main() -> io::Result<()> {
                 drive::drive(Subject::Program(program), Path::new(books), Path::new(answers), Path::new(folder), jobs)?;
             exit(i32::from(differences > 0))
         }
-        ["hold", books, answers, folder, jobs] => {
+        ["hold", what @ ("paper" | "paper-slots"), books, answers, folder, jobs] => {
             let jobs = jobs.parse().expect("a count");
+            let list = if what == "paper" { paper::list } else { paper::slots };
             let differences =
-                drive::drive(Subject::Paper, Path::new(books), Path::new(answers), Path::new(folder), jobs)?;
+                drive::drive(Subject::Paper(list), Path::new(books), Path::new(answers), Path::new(folder), jobs)?;
             exit(i32::from(differences > 0))
         }
         _ => {

@@ -1,4 +1,4 @@
-//! The listing of a book by document 01's words alone, with none of the source in it. Alarms are
+//! The listing of a book, and the lines of the program slots, by document 01's words alone, with none of the source in it. Alarms are
 //! taken from their sentences ("some u", "some t"), with no monitor state: this shows where the
 //! source and the document part. The reader is the one of book.rs.
 //!
@@ -208,16 +208,60 @@ fn node_lines(f: &Rulebook<'_>, check: &Check, lines: &mut Vec<String>) {
     }
 }
 
-fn bits(check: &Check) -> u64 {
+/// A node's own bits: pending, remaining, antecedent.
+fn own_bits(check: &Check) -> [u64; 3] {
     match check {
-        Check::Obligation { bound: 0, .. } | Check::Range { .. } => 0,
-        Check::Delayed { .. } => 1,
+        Check::Obligation { bound: 0, .. } | Check::Range { .. } => [0, 0, 0],
+        Check::Delayed { .. } => [0, 0, 1],
         Check::Obligation { bound, .. } => {
             let values = u128::from(*bound) + 1;
-            1 + (0..=64).find(|k| 1u128 << k >= values).unwrap()
+            [1, (0..=64).find(|k| 1u128 << k >= values).unwrap(), 0]
         }
-        Check::And(a, b) | Check::Or(a, b) => bits(a) + bits(b),
+        Check::And(..) | Check::Or(..) => [0, 0, 0],
     }
+}
+
+/// The bits of each node, in prefix order.
+fn pieces(check: &Check, out: &mut Vec<[u64; 3]>) {
+    out.push(own_bits(check));
+    if let Check::And(a, b) | Check::Or(a, b) = check {
+        pieces(a, out);
+        pieces(b, out);
+    }
+}
+
+fn bits(check: &Check) -> u64 {
+    let mut out = Vec::new();
+    pieces(check, &mut out);
+    out.iter().flatten().sum()
+}
+
+fn compile_all(rules: &[(&Rule<'_>, Rulebook<'_>)]) -> Vec<Result<Check, u32>> {
+    let open = Range { from: 0, to: None };
+    rules.iter().map(|(_, f)| compile(f, 0, open, false)).collect()
+}
+
+/// Properties first, then assumptions, each in book order, from bit 0.
+fn first_bits(rules: &[(&Rule<'_>, Rulebook<'_>)], checks: &[Result<Check, u32>]) -> Vec<u64> {
+    let mut first_bit = vec![0; rules.len()];
+    let mut next_bit = 0;
+    for assumption in [false, true] {
+        for (k, check) in checks.iter().enumerate() {
+            if let (Ok(check), true) = (check, rules[k].0.assumption == assumption) {
+                first_bit[k] = next_bit;
+                next_bit += bits(check);
+            }
+        }
+    }
+    first_bit
+}
+
+/// The node lines, and the same with v, i, o taken as one letter. Form letters are capitals, so i and o stand in signals only.
+fn lines_of(f: &Rulebook<'_>, check: &Check) -> (Vec<String>, Vec<String>) {
+    let mut lines = Vec::new();
+    node_lines(f, check, &mut lines);
+    let one_letter = lines.iter().map(|line| line.replace(['i', 'o'], "v")).collect();
+    (lines, one_letter)
 }
 
 /// For each call of the record, whether the check alarms there; and its culprit once it has alarmed.
@@ -309,22 +353,14 @@ fn split(f: &Rulebook<'_>, at: usize, owed: &mut Vec<String>) -> Result<String, 
     }
 }
 
-fn accepted(book: &Book<'_>) -> String {
-    let rules: Vec<(&Rule<'_>, Rulebook<'_>)> =
-        book.rules.iter().map(|r| (r, Rulebook { nodes: &r.nodes })).collect();
-    let open = Range { from: 0, to: None };
-    let checks: Vec<Result<Check, u32>> = rules.iter().map(|(_, f)| compile(f, 0, open, false)).collect();
+fn rules_of<'a>(book: &'a Book<'_>) -> Vec<(&'a Rule<'a>, Rulebook<'a>)> {
+    book.rules.iter().map(|r| (r, Rulebook { nodes: &r.nodes })).collect()
+}
 
-    let mut first_bit = vec![0; rules.len()];
-    let mut next_bit = 0;
-    for assumption in [false, true] {
-        for (k, check) in checks.iter().enumerate() {
-            if let (Ok(check), true) = (check, rules[k].0.assumption == assumption) {
-                first_bit[k] = next_bit;
-                next_bit += bits(check);
-            }
-        }
-    }
+fn accepted(book: &Book<'_>) -> String {
+    let rules = rules_of(book);
+    let checks = compile_all(&rules);
+    let first_bit = first_bits(&rules, &checks);
 
     let mut out = String::new();
     let mut earlier: Vec<(usize, Vec<String>)> = Vec::new();
@@ -335,11 +371,7 @@ fn accepted(book: &Book<'_>) -> String {
         match &checks[k] {
             Err(refusal) => writeln!(out, "{refusal}\t-\t-\t-").unwrap(),
             Ok(check) => {
-                let mut lines = Vec::new();
-                node_lines(f, check, &mut lines);
-                // form letters are capitals, so i and o stand in signals only
-                let one_letter: Vec<String> =
-                    lines.iter().map(|line| line.replace(['i', 'o'], "v")).collect();
+                let (lines, one_letter) = lines_of(f, check);
                 let alike = earlier.iter().find(|(_, other)| *other == one_letter);
                 let alike = alike.map_or("-".to_string(), |(number, _)| number.to_string());
                 writeln!(out, "0\t{}\t{}\t{alike}", first_bit[k], bits(check)).unwrap();
@@ -382,9 +414,42 @@ fn accepted(book: &Book<'_>) -> String {
     out
 }
 
-pub fn list(bytes: &[u8], out: &mut Vec<u8>) {
+/// The lines of the program slots.
+fn accepted_slots(book: &Book<'_>) -> String {
+    let rules = rules_of(book);
+    let checks = compile_all(&rules);
+    let first_bit = first_bits(&rules, &checks);
+    let (mut out, mut pairs) = (String::new(), String::new());
+    let mut earlier: Vec<(usize, Vec<String>)> = Vec::new();
+    for (k, (_, f)) in rules.iter().enumerate() {
+        let Ok(check) = &checks[k] else { continue };
+        writeln!(out, "rule\t{k}\t{}\t{}\t{}", first_bit[k], bits(check), bits(check)).unwrap();
+        let (mut own, mut offset) = (Vec::new(), 0);
+        pieces(check, &mut own);
+        for (j, [pending, remaining, antecedent]) in own.iter().enumerate() {
+            writeln!(out, "slot\t{k}\t{j}\t{offset}\t{pending}\t{remaining}\t{antecedent}").unwrap();
+            offset += pending + remaining + antecedent;
+        }
+        let (_, one_letter) = lines_of(f, check);
+        for (q, _) in earlier.iter().filter(|(_, other)| *other == one_letter) {
+            writeln!(pairs, "alike\t{q}\t{k}").unwrap();
+        }
+        earlier.push((k, one_letter));
+    }
+    out + &pairs
+}
+
+fn answer(bytes: &[u8], accepted: fn(&Book<'_>) -> String, out: &mut Vec<u8>) {
     match read(bytes) {
         Ok(book) => out.extend_from_slice(accepted(&book).as_bytes()),
         Err(refused) => crate::listing::refused_line(refused, out),
     }
+}
+
+pub fn list(bytes: &[u8], out: &mut Vec<u8>) {
+    answer(bytes, accepted, out)
+}
+
+pub fn slots(bytes: &[u8], out: &mut Vec<u8>) {
+    answer(bytes, accepted_slots, out)
 }

@@ -1,0 +1,57 @@
+use mathlib.Core.Path.{_≡_}
+use Prim.Native.Nat.{_-_}
+use lib.ListN.{length}
+use borrow.Author.Needs.{needs}
+use Rattle.slots.proofs.compile.compile_rules.Statement.{statement}
+use Rattle.slots.proofs.compile.compile_rules.Tie as tie
+use Rattle.slots.proofs.compile.compile_rules.Reads as reads
+use Rattle.slots.proofs.compile.compile_rules.Lts as lts
+use Rattle.slots.proofs.compile.compile_one.Reads as compile-one-reads
+
+abbrev Inv-loop : tie.InvT-loop
+Inv-loop ops nums firsts counts n nodes₀ ncounts₀ refusals₀ r₀ nodes ncounts refusals r = length nodes ≡ length nodes₀
+
+abbrev μ-loop : tie.MeasureT-loop
+μ-loop ops nums firsts counts n nodes₀ ncounts₀ refusals₀ r₀ nodes ncounts refusals r = n - r
+
+-- src/compile.rt:53:5
+loop-holds : tie.Need-loop-holds Inv-loop μ-loop
+loop-holds c = search needs
+
+-- src/compile.rt:54:9
+compile-one-requires : tie.Need-compile-one-requires Inv-loop μ-loop
+compile-one-requires c κs = search needs
+
+-- src/compile.rt:55:9
+add-r : tie.Need-add-r Inv-loop μ-loop
+add-r c = search needs
+
+-- src/compile.rt:53:5
+loop-less : tie.Need-loop-less Inv-loop μ-loop
+loop-less c = search needs
+
+-- src/compile.rt:53:5
+loop-again : tie.Need-loop-again Inv-loop μ-loop
+loop-again c = search needs
+
+-- src/compile.rt:42:1
+same-length : tie.Need-same-length Inv-loop μ-loop
+same-length c = search needs
+
+-- src/compile.rt:42:1
+returns : tie.Need-returns Inv-loop μ-loop
+returns c = search needs
+
+pub compile-rules-spec : {M : Type 1} → statement M
+compile-rules-spec =
+    tie.close
+    (tie.spec
+    Inv-loop
+    μ-loop
+    loop-holds
+    compile-one-requires
+    add-r
+    loop-less
+    loop-again
+    same-length
+    returns)

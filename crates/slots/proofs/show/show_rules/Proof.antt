@@ -1,0 +1,42 @@
+use Prim.Native.Nat.{_-_}
+use borrow.Author.Needs.{needs}
+use Rattle.slots.proofs.show.show_rules.Statement.{statement}
+use Rattle.slots.proofs.show.show_rules.Tie as tie
+use Rattle.slots.proofs.show.show_rules.Reads as reads
+use Rattle.slots.proofs.show.show_rules.Lts as lts
+use Rattle.slots.proofs.show.show_rule_at.Reads as show-rule-at-reads
+
+abbrev Inv-loop : tie.InvT-loop
+Inv-loop ops nums nodes firsts counts ncounts refusals n starts bits r₀ r = Unit {0}
+
+abbrev μ-loop : tie.MeasureT-loop
+μ-loop ops nums nodes firsts counts ncounts refusals n starts bits r₀ r = n - r
+
+-- src/show.rt:129:5
+loop-holds : tie.Need-loop-holds Inv-loop μ-loop
+loop-holds c = search needs
+
+-- src/show.rt:130:9
+show-rule-at-requires : tie.Need-show-rule-at-requires Inv-loop μ-loop
+show-rule-at-requires c κs = search needs
+
+-- src/show.rt:142:9
+add-r : tie.Need-add-r Inv-loop μ-loop
+add-r c = search needs
+
+-- src/show.rt:129:5
+loop-less : tie.Need-loop-less Inv-loop μ-loop
+loop-less c = search needs
+
+-- src/show.rt:129:5
+loop-again : tie.Need-loop-again Inv-loop μ-loop
+loop-again c = search needs
+
+-- src/show.rt:116:1
+returns : tie.Need-returns Inv-loop μ-loop
+returns c = search needs
+
+pub show-rules-spec : {M : Type 1} → statement M
+show-rules-spec =
+    tie.close
+    (tie.spec Inv-loop μ-loop loop-holds show-rule-at-requires add-r loop-less loop-again returns)

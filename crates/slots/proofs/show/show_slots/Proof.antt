@@ -1,0 +1,42 @@
+use Prim.Native.Nat.{_-_}
+use borrow.Author.Needs.{needs}
+use Rattle.slots.proofs.show.show_slots.Statement.{statement}
+use Rattle.slots.proofs.show.show_slots.Tie as tie
+use Rattle.slots.proofs.show.show_slots.Reads as reads
+use Rattle.slots.proofs.show.show_slots.Lts as lts
+use Rattle.slots.proofs.show.show_slot.Reads as show-slot-reads
+
+abbrev Inv-loop : tie.InvT-loop
+Inv-loop ops nums nodes a r j₀ j = Unit {0}
+
+abbrev μ-loop : tie.MeasureT-loop
+μ-loop ops nums nodes a r j₀ j = a .ncount - j
+
+-- src/show.rt:71:5
+loop-holds : tie.Need-loop-holds Inv-loop μ-loop
+loop-holds c = search needs
+
+-- src/show.rt:72:9
+show-slot-requires : tie.Need-show-slot-requires Inv-loop μ-loop
+show-slot-requires c κs = search needs
+
+-- src/show.rt:73:9
+add-j : tie.Need-add-j Inv-loop μ-loop
+add-j c = search needs
+
+-- src/show.rt:71:5
+loop-less : tie.Need-loop-less Inv-loop μ-loop
+loop-less c = search needs
+
+-- src/show.rt:71:5
+loop-again : tie.Need-loop-again Inv-loop μ-loop
+loop-again c = search needs
+
+-- src/show.rt:69:1
+returns : tie.Need-returns Inv-loop μ-loop
+returns c = search needs
+
+pub show-slots-spec : {M : Type 1} → statement M
+show-slots-spec =
+    tie.close
+    (tie.spec Inv-loop μ-loop loop-holds show-slot-requires add-j loop-less loop-again returns)

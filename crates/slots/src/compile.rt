@@ -1,0 +1,59 @@
+// The rules of a book compiled into one node table. A rule has no more nodes than its formula: its rows begin at its formula's own place.
+use compiler::Compiled;
+use compiler::compile_formula;
+ghost use Prim.Native.Nat.{_≤_, _<_};
+
+// Compiles the rule at `first` into the rows from row `first` on.
+fn compile_at(ops: &[u8], nums: &[u64], first: usize, count: usize, nodes: &mut [u64]) -> Compiled {
+    if 1024 < first {
+        return Compiled::Refused(2);
+    }
+    let from = 7 * first;
+    if nodes.len() < from {
+        return Compiled::Refused(1);
+    }
+    compile_formula(ops, nums, first, count, &mut nodes[from..])
+}
+
+// Compiles rule r, and enters its count of nodes or its refusal.
+fn compile_one(
+    ops: &[u8],
+    nums: &[u64],
+    firsts: &[usize; 64],
+    counts: &[usize; 64],
+    r: usize,
+    nodes: &mut [u64],
+    ncounts: &mut [usize; 64],
+    refusals: &mut [u64; 64],
+)
+    requires { ⌜ r < 64 ⌝ }
+{
+    match compile_at(ops, nums, firsts[r], counts[r], nodes) {
+        Compiled::Refused(m) => {
+            refusals[r] = m;
+        }
+        Compiled::Nodes(k) => {
+            ncounts[r] = k;
+        }
+    }
+}
+
+// Compiles the first n rules.
+pub fn compile_rules(
+    ops: &[u8],
+    nums: &[u64],
+    firsts: &[usize; 64],
+    counts: &[usize; 64],
+    n: usize,
+    nodes: &mut [u64],
+    ncounts: &mut [usize; 64],
+    refusals: &mut [u64; 64],
+)
+    requires { ⌜ n ≤ 64 ⌝ }
+{
+    let mut r: usize = 0;
+    while r < n {
+        compile_one(ops, nums, firsts, counts, r, nodes, ncounts, refusals);
+        r += 1;
+    }
+}

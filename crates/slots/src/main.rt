@@ -1,0 +1,177 @@
+// slots: reads a book on standard input, compiles each rule and prints what the calls on compiled rules answer, by tabs:
+// `rule`, number, first bit and bits by `layout`, bits by `rule_layout`; `slot`, rule, node, offset, bits of the pending flag, of the remaining
+// count, of the remembered antecedent, by `node_slot`; `alike`, two rules, by `alike`; or `refused`, number and line of a refused book.
+mod compile;
+mod show;
+
+use crate::compile::compile_rules;
+use crate::show::show_alike;
+use crate::show::show_number;
+use crate::show::show_refused;
+use crate::show::show_rules;
+use layout::book::Laid;
+use layout::book::layout;
+use libc::STDIN_FILENO;
+use libc::STDOUT_FILENO;
+use reader::read::Answer;
+use reader::read::read_book;
+ghost use Prim.Native.Nat.{_≤_};
+
+// First bits and bits of the n rules; or the refusal is shown.
+fn lay_out(
+    ops: &[u8],
+    nums: &[u64],
+    kinds: &[u8],
+    firsts: &[usize; 64],
+    counts: &[usize; 64],
+    nodes: &[u64],
+    ncounts: &[usize; 64],
+    refusals: &[u64; 64],
+    n: usize,
+    starts: &mut [u64],
+    bits: &mut [u64],
+) {
+    match layout(
+        ops,
+        nums,
+        firsts,
+        counts,
+        nodes,
+        firsts,
+        ncounts,
+        kinds,
+        refusals,
+        n,
+        starts,
+        bits,
+    ) {
+        Laid::Refused(m) => show_refused(b"layout", m),
+        Laid::Done => return,
+    }
+}
+
+// The n rules as they are compiled: laid out, shown, and compared.
+fn run_compiled(
+    ops: &[u8],
+    nums: &[u64],
+    kinds: &[u8],
+    firsts: &[usize; 64],
+    counts: &[usize; 64],
+    nodes: &[u64],
+    ncounts: &[usize; 64],
+    refusals: &[u64; 64],
+    n: usize,
+)
+    requires { ⌜ n ≤ 64 ⌝ }
+{
+    let mut starts = [0u64; 64];
+    let mut bits = [0u64; 64];
+    lay_out(
+        ops,
+        nums,
+        kinds,
+        firsts,
+        counts,
+        nodes,
+        ncounts,
+        refusals,
+        n,
+        &mut starts,
+        &mut bits,
+    );
+    show_rules(
+        ops,
+        nums,
+        nodes,
+        firsts,
+        counts,
+        ncounts,
+        refusals,
+        n,
+        &starts,
+        &bits,
+    );
+    show_alike(ops, nums, nodes, firsts, counts, ncounts, refusals, n);
+}
+
+// The n rules of an accepted book.
+fn run_rules(
+    ops: &[u8],
+    nums: &[u64],
+    kinds: &[u8],
+    firsts: &[usize; 64],
+    counts: &[usize; 64],
+    n: usize,
+)
+    requires { ⌜ n ≤ 64 ⌝ }
+{
+    let mut nodes = [0u64; 8960];
+    let mut ncounts = [0usize; 64];
+    let mut refusals = [0u64; 64];
+    compile_rules(
+        ops,
+        nums,
+        firsts,
+        counts,
+        n,
+        &mut nodes,
+        &mut ncounts,
+        &mut refusals,
+    );
+    run_compiled(
+        ops,
+        nums,
+        kinds,
+        firsts,
+        counts,
+        &nodes,
+        &ncounts,
+        &refusals,
+        n,
+    );
+}
+
+fn run_book(text: &[u8]) {
+    let mut labels = [0u8; 2048];
+    let mut lens = [0usize; 64];
+    let mut kinds = [0u8; 64];
+    let mut firsts = [0usize; 64];
+    let mut counts = [0usize; 64];
+    let mut ops = [0u8; 1024];
+    let mut nums = [0u64; 1024];
+    let answer = read_book(
+        text,
+        &mut labels,
+        &mut lens,
+        &mut kinds,
+        &mut firsts,
+        &mut counts,
+        &mut ops,
+        &mut nums,
+    );
+    match answer {
+        Answer::Refused { number, line } => {
+            io::write_all(STDOUT_FILENO, b"refused");
+            show_number(number as u64);
+            show_number(line as u64);
+            io::write_all(STDOUT_FILENO, b"\n");
+        }
+        Answer::Read {
+            rules,
+            nodes: _,
+            steps_at: _,
+        } => {
+            if 64 < rules {
+                show_refused(b"more than 64 rules", 2);
+                return;
+            }
+            run_rules(&ops, &nums, &kinds, &firsts, &counts, rules);
+        }
+    }
+}
+
+fn main() {
+    let mut text = io::large_buffer();
+    let n = io::read_full(STDIN_FILENO, &mut text);
+    run_book(&text[..n]);
+}

@@ -1,0 +1,220 @@
+// The lines of compiled rules.
+use alike::Likeness;
+use alike::Part;
+use alike::alike;
+use layout::rule::NodeSlot;
+use layout::rule::RuleBits;
+use layout::rule::node_slot;
+use layout::rule::rule_layout;
+use libc::STDOUT_FILENO;
+ghost use Prim.Native.Nat.{_≤_, _<_};
+
+fn put(s: &[u8]) {
+    io::write_all(STDOUT_FILENO, s);
+}
+
+// A number behind a tab.
+pub fn show_number(n: u64) {
+    put(b"\t");
+    io::print_decimal(STDOUT_FILENO, n);
+}
+
+fn show_place(n: usize) {
+    show_number(n as u64);
+}
+
+// A call's refusal, which no compiled rule meets.
+pub fn show_refused(call: &[u8], n: u64) {
+    put(call);
+    put(b" refused");
+    show_number(n);
+    put(b"\n");
+}
+
+// Rule r of the tables.
+fn part_at(firsts: &[usize; 64], counts: &[usize; 64], ncounts: &[usize; 64], r: usize) -> Part
+    requires { ⌜ r < 64 ⌝ }
+{
+    Part {
+        first: firsts[r],
+        count: counts[r],
+        nfirst: firsts[r],
+        ncount: ncounts[r],
+    }
+}
+
+// Node j of rule r.
+fn show_slot(ops: &[u8], nums: &[u64], nodes: &[u64], a: Part, r: usize, j: usize) {
+    match node_slot(ops, nums, a.first, a.count, nodes, a.nfirst, a.ncount, j) {
+        NodeSlot::Refused(n) => show_refused(b"node_slot", n),
+        NodeSlot::At(slot) => {
+            let piece = slot.piece;
+            put(b"slot");
+            show_place(r);
+            show_place(j);
+            show_number(slot.offset);
+            show_number(piece.pending);
+            show_number(piece.remaining);
+            show_number(piece.antecedent);
+            put(b"\n");
+        }
+    }
+}
+
+fn show_slots(ops: &[u8], nums: &[u64], nodes: &[u64], a: Part, r: usize) {
+    let mut j: usize = 0;
+    while j < a.ncount {
+        show_slot(ops, nums, nodes, a, r, j);
+        j += 1;
+    }
+}
+
+// The line of a rule, and those of its nodes.
+fn show_rule(ops: &[u8], nums: &[u64], nodes: &[u64], a: Part, r: usize, start: u64, bits: u64) {
+    match rule_layout(ops, nums, a.first, a.count, nodes, a.nfirst, a.ncount) {
+        RuleBits::Refused(n) => show_refused(b"rule_layout", n),
+        RuleBits::Bits(own) => {
+            put(b"rule");
+            show_place(r);
+            show_number(start);
+            show_number(bits);
+            show_number(own);
+            put(b"\n");
+        }
+    }
+    show_slots(ops, nums, nodes, a, r);
+}
+
+fn show_rule_at(
+    ops: &[u8],
+    nums: &[u64],
+    nodes: &[u64],
+    firsts: &[usize; 64],
+    counts: &[usize; 64],
+    ncounts: &[usize; 64],
+    refusals: &[u64; 64],
+    r: usize,
+    starts: &[u64; 64],
+    bits: &[u64; 64],
+)
+    requires { ⌜ r < 64 ⌝ }
+{
+    if refusals[r] != 0 {
+        return;
+    }
+    let a = part_at(firsts, counts, ncounts, r);
+    show_rule(ops, nums, nodes, a, r, starts[r], bits[r]);
+}
+
+// The lines of the rules that compile, with their first bits and bits.
+pub fn show_rules(
+    ops: &[u8],
+    nums: &[u64],
+    nodes: &[u64],
+    firsts: &[usize; 64],
+    counts: &[usize; 64],
+    ncounts: &[usize; 64],
+    refusals: &[u64; 64],
+    n: usize,
+    starts: &[u64; 64],
+    bits: &[u64; 64],
+)
+    requires { ⌜ n ≤ 64 ⌝ }
+{
+    let mut r: usize = 0;
+    while r < n {
+        show_rule_at(
+            ops,
+            nums,
+            nodes,
+            firsts,
+            counts,
+            ncounts,
+            refusals,
+            r,
+            starts,
+            bits,
+        );
+        r += 1;
+    }
+}
+
+// The line of two rules, if they are alike.
+fn show_pair(ops: &[u8], nums: &[u64], nodes: &[u64], a: Part, b: Part, q: usize, r: usize) {
+    match alike(ops, nums, nodes, a, b) {
+        Likeness::Refused(n) => show_refused(b"alike", n),
+        Likeness::Unlike => return,
+        Likeness::Alike => {
+            put(b"alike");
+            show_place(q);
+            show_place(r);
+            put(b"\n");
+        }
+    }
+}
+
+// Rule q, if it compiles, beside the compiled rule r.
+fn show_alike_at(
+    ops: &[u8],
+    nums: &[u64],
+    nodes: &[u64],
+    firsts: &[usize; 64],
+    counts: &[usize; 64],
+    ncounts: &[usize; 64],
+    refusals: &[u64; 64],
+    b: Part,
+    q: usize,
+    r: usize,
+)
+    requires { ⌜ q < 64 ⌝ }
+{
+    if refusals[q] != 0 {
+        return;
+    }
+    let a = part_at(firsts, counts, ncounts, q);
+    show_pair(ops, nums, nodes, a, b, q, r);
+}
+
+// The earlier rules that are like rule r, if it compiles.
+fn show_alike_to(
+    ops: &[u8],
+    nums: &[u64],
+    nodes: &[u64],
+    firsts: &[usize; 64],
+    counts: &[usize; 64],
+    ncounts: &[usize; 64],
+    refusals: &[u64; 64],
+    r: usize,
+)
+    requires { ⌜ r < 64 ⌝ }
+{
+    if refusals[r] != 0 {
+        return;
+    }
+    let b = part_at(firsts, counts, ncounts, r);
+    let mut q: usize = 0;
+    while q < r {
+        show_alike_at(ops, nums, nodes, firsts, counts, ncounts, refusals, b, q, r);
+        q += 1;
+    }
+}
+
+// Each two rules that compile and are alike, by the later one and then the earlier.
+pub fn show_alike(
+    ops: &[u8],
+    nums: &[u64],
+    nodes: &[u64],
+    firsts: &[usize; 64],
+    counts: &[usize; 64],
+    ncounts: &[usize; 64],
+    refusals: &[u64; 64],
+    n: usize,
+)
+    requires { ⌜ n ≤ 64 ⌝ }
+{
+    let mut r: usize = 0;
+    while r < n {
+        show_alike_to(ops, nums, nodes, firsts, counts, ncounts, refusals, r);
+        r += 1;
+    }
+}
