@@ -94,7 +94,9 @@ module _ (t : Tables) (k : Monitor) (n : ℕ) (m : Mon) (own : ruleMon t ≡ som
       }
 
 -- ---- the theorems
-pub own-table : (ops nums : List ℕ) (first count : ℕ) (f : Formula) → ruleOf ops nums first count ≡ some f → (out : List ℕ) (n : ℕ) → compileCall ops nums first count out .answer ≡ given n → ruleMon (compiledTables ops nums first count out n) ≡ some (ruleNode f first)
+pub own-table : (ops nums : List ℕ) (first count : ℕ) (f : Formula) → ruleOf ops nums first count ≡ some f →
+    (out : List ℕ) (n : ℕ) → compileCall ops nums first count out .answer ≡ given n →
+    ruleMon (compiledTables ops nums first count out n) ≡ some (ruleNode f first)
 own-table ops nums first count f is-f out n compiles =
     let c = compiled-reads ops nums first count out n compiles in
     c .reads ∙ ap (λ (g : Formula). some (ruleNode g first)) (some-inj (sym (c .rule) ∙ is-f))

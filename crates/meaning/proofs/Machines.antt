@@ -24,7 +24,8 @@ module _ {Memory Event : Type 0} (k : Machine Memory Event) where
   -- the memory reads as a state of m, which a fair event steps and reports as its calls do; a memory that is ready stays so, and then
   -- an event that is lent enough is accepted
   pub record Lawful (m : Mon) (Reads : Memory → State m → Type 0) (Ready : Memory → Type 0) : Type 0 where
-    pub follows : (e : Event) (mem : Memory) (st : State m) → Reads mem st → Fair k m e mem → Reads (k .run e mem) (stepAll m st (k .calls e mem)) × (k .reports e mem ≡ reportOf m st (k .calls e mem))
+    pub follows : (e : Event) (mem : Memory) (st : State m) → Reads mem st → Fair k m e mem →
+        Reads (k .run e mem) (stepAll m st (k .calls e mem)) × (k .reports e mem ≡ reportOf m st (k .calls e mem))
     pub stays : (e : Event) (mem : Memory) → Ready mem → Fair k m e mem → Ready (k .run e mem)
     pub takes : (e : Event) (mem : Memory) → Ready mem → Lent k m e → k .calls e mem ≡ k .asks e
 
@@ -87,7 +88,10 @@ module _ {Memory Event : Type 0} (k : Machine Memory Event) where
       }
 
   -- the demand, of the rule f at place i of its table
-  pub meets : (f : Formula) (i : ℕ) (Reads : Memory → State (ruleNode f i) → Type 0) (Ready : Memory → Type 0) → Lawful (ruleNode f i) Reads Ready → (mem : Memory) → Reads mem (fresh (ruleNode f i)) → Ready mem → ((s w : ℕ) → s < 9223372036854775808 → (e : Event) × Lent k (ruleNode f i) e × (k .asks e ≡ accepted s w ∷ [])) → Demand k f (ruleNode f i) Reads mem
+  pub meets : (f : Formula) (i : ℕ) (Reads : Memory → State (ruleNode f i) → Type 0) (Ready : Memory → Type 0) →
+      Lawful (ruleNode f i) Reads Ready → (mem : Memory) → Reads mem (fresh (ruleNode f i)) → Ready mem →
+      ((s w : ℕ) → s < 9223372036854775808 → (e : Event) × Lent k (ruleNode f i) e × (k .asks e ≡ accepted s w ∷ [])) →
+      Demand k f (ruleNode f i) Reads mem
   meets f i Reads Ready law mem r d l = record {
     tells = λ es a h. tells (ruleNode f i) Reads Ready law mem r (recordOf (callsOf k mem es)) es a h (λ j z. refl);
     accepts = takes-on;

@@ -67,7 +67,8 @@ same-length (some f) first out = go (ruleFaults f)
     go [] = length-sets out 0 (rows (ruleNode f first))
     go (n ∷ ns) = refl
 
-pub compiled-room : (ops nums : List ℕ) (first count : ℕ) (out : List ℕ) (n : ℕ) → compileCall ops nums first count out .answer ≡ given n → tableRoom ops nums (compileCall ops nums first count out .out) ≡ true
+pub compiled-room : (ops nums : List ℕ) (first count : ℕ) (out : List ℕ) (n : ℕ) → compileCall ops nums first count out .answer ≡ given n →
+    tableRoom ops nums (compileCall ops nums first count out .out) ≡ true
 unfolding compileCall
 compiled-room ops nums first count out n compiles = go (roomy ops nums && leb 1792 (length out)) refl compiles
   where

@@ -34,7 +34,8 @@ module _ (m : Mon) (t : Tables) (own : ruleMon t ≡ some m) (k : Monitor) (s w 
       (a ∙ ap (λ (y : State m). step m y s w .state) r, c ∙ ap (λ (y : State m). newlyFailed m y s w) r)
 
 -- an accepted call went over tables with room, below 2^63
-pub accepted-room : (m : Mon) (t : Tables) (k : Monitor) (s w : ℕ) (b : Bool) → ruleMon t ≡ some m → stepCall t k s w .answer ≡ given b → HoldsRule t m × (s < 9223372036854775808)
+pub accepted-room : (m : Mon) (t : Tables) (k : Monitor) (s w : ℕ) (b : Bool) →
+    ruleMon t ≡ some m → stepCall t k s w .answer ≡ given b → HoldsRule t m × (s < 9223372036854775808)
 accepted-room m t k s w b own q = go (answered t k s w)
   where
     go : Answered t k s w (stepCall t k s w) → HoldsRule t m × (s < 9223372036854775808)

@@ -143,7 +143,10 @@ module _ (t : Tables) (m : Mon) (a : HoldsRule t m) where
       subst (Says m ls) (sym q) (says-of m ls _ (judged m (recordOf ls) 0 (truthsOf ls) (λ i l. ap (λ (j : ℕ). getD (truthsOf ls) j 0) (sym (zero-add i)))))
 
 -- a rule f of the table that compiles, over the step lines from a place of the text on
-pub rule-says : (text : List ℕ) (from : ℕ) (ops nums : List ℕ) (first count : ℕ) (f : Formula) → ruleOf ops nums first count ≡ some f → (n : ℕ) → compileCall ops nums first count (replicate 1792 0) .answer ≡ given n → NumberedFrom 0 (stepsFrom text from) → length (stepsFrom text from) ≤ 9223372036854775808 → Says (ruleNode f first) (stepsFrom text from) (ruleWatched text from ops nums first count)
+pub rule-says : (text : List ℕ) (from : ℕ) (ops nums : List ℕ) (first count : ℕ) (f : Formula) → ruleOf ops nums first count ≡ some f →
+    (n : ℕ) → compileCall ops nums first count (replicate 1792 0) .answer ≡ given n →
+    NumberedFrom 0 (stepsFrom text from) → length (stepsFrom text from) ≤ 9223372036854775808 →
+    Says (ruleNode f first) (stepsFrom text from) (ruleWatched text from ops nums first count)
 unfolding ruleWatched
 rule-says text from ops nums first count f is-f n compiles e h =
     let out : List ℕ = replicate 1792 0 in
