@@ -8,44 +8,34 @@ use Rattle.alike.proofs.holds.Reads as holds-reads
 use Rattle.alike.proofs.node.same_nodes.Reads as same-nodes-reads
 use Rattle.formula.proofs.table.is_roomy.Reads as is-roomy-reads
 
--- src/lib.rt:31:9
 returns : tie.Need-returns
 returns c = search (needs, short-nodes)
 
--- src/lib.rt:33:8
 is-roomy-requires : tie.Need-is-roomy-requires
 is-roomy-requires c κs = search needs
 
--- src/lib.rt:34:12
 holds-requires : tie.Need-holds-requires
 holds-requires c κs = search needs
 
--- src/lib.rt:35:16
 holds-requires-2 : tie.Need-holds-requires-2
 holds-requires-2 c κs = search needs
 
--- src/lib.rt:36:20
 same-nodes-requires : tie.Need-same-nodes-requires
 same-nodes-requires c κs =
     (part-compiled _ _ _ _ _ (c .before .before .before .holds .ensures) (c .before .before .if3 .taken), part-compiled _ _ _ _ _ (c .before .holds2 .ensures) (c .if4 .taken))
 
--- src/lib.rt:37:21
 returns-2 : tie.Need-returns-2
 returns-2 c = search (needs, both-alike)
 
--- src/lib.rt:39:17
 returns-3 : tie.Need-returns-3
 returns-3 c = search (needs, both-unlike)
 
--- src/lib.rt:41:13
 returns-4 : tie.Need-returns-4
 returns-4 c = search (needs, second-none)
 
--- src/lib.rt:43:9
 returns-5 : tie.Need-returns-5
 returns-5 c = search (needs, first-none)
 
--- src/lib.rt:27:1
 returns-6 : tie.Need-returns-6
 returns-6 c = search (needs, not-roomy)
 

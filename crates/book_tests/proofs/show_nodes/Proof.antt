@@ -12,27 +12,21 @@ Inv-loop ops nums n i₀ i = Unit {0}
 abbrev μ-loop : tie.MeasureT-loop
 μ-loop ops nums n i₀ i = n - i
 
--- src/main.rt:133:5
 loop-holds : tie.Need-loop-holds Inv-loop μ-loop
 loop-holds c = search needs
 
--- src/main.rt:134:9
 show-node-requires : tie.Need-show-node-requires Inv-loop μ-loop
 show-node-requires c κs = search needs
 
--- src/main.rt:135:9
 add-i : tie.Need-add-i Inv-loop μ-loop
 add-i c = search needs
 
--- src/main.rt:133:5
 loop-less : tie.Need-loop-less Inv-loop μ-loop
 loop-less c = search needs
 
--- src/main.rt:133:5
 loop-again : tie.Need-loop-again Inv-loop μ-loop
 loop-again c = search needs
 
--- src/main.rt:131:1
 returns : tie.Need-returns Inv-loop μ-loop
 returns c = search needs
 

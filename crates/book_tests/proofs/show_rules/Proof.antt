@@ -12,27 +12,21 @@ Inv-loop labels lens kinds firsts counts n i₀ i = Unit {0}
 abbrev μ-loop : tie.MeasureT-loop
 μ-loop labels lens kinds firsts counts n i₀ i = n - i
 
--- src/main.rt:112:5
 loop-holds : tie.Need-loop-holds Inv-loop μ-loop
 loop-holds c = search needs
 
--- src/main.rt:113:9
 show-rule-requires : tie.Need-show-rule-requires Inv-loop μ-loop
 show-rule-requires c κs = search needs
 
--- src/main.rt:114:9
 add-i : tie.Need-add-i Inv-loop μ-loop
 add-i c = search needs
 
--- src/main.rt:112:5
 loop-less : tie.Need-loop-less Inv-loop μ-loop
 loop-less c = search needs
 
--- src/main.rt:112:5
 loop-again : tie.Need-loop-again Inv-loop μ-loop
 loop-again c = search needs
 
--- src/main.rt:103:1
 returns : tie.Need-returns Inv-loop μ-loop
 returns c = search needs
 

@@ -13,63 +13,48 @@ Inv-loop text from at₀ left₀ t8 t9 at left = Unit {0}
 abbrev μ-loop : tie.MeasureT-loop
 μ-loop text from at₀ left₀ t8 t9 at left = left
 
--- src/main.rt:143:5
 loop-holds : tie.Need-loop-holds Inv-loop μ-loop
 loop-holds c = search needs
 
--- src/main.rt:144:15
 next-step-requires : tie.Need-next-step-requires Inv-loop μ-loop
 next-step-requires c κs = search needs
 
--- src/main.rt:145:30
 enum-told : tie.Need-enum-told Inv-loop μ-loop
 enum-told c = search needs
 
--- src/main.rt:145:30
 returns : tie.Need-returns Inv-loop μ-loop
 returns c = search needs
 
--- src/main.rt:146:30
 enum-known-step : tie.Need-enum-known-step Inv-loop μ-loop
 enum-known-step c = search needs
 
--- src/main.rt:147:21
 slice-aggregate-put : tie.Need-slice-aggregate-put Inv-loop μ-loop
 slice-aggregate-put c = search needs
 
--- src/main.rt:147:17
 put-requires : tie.Need-put-requires Inv-loop μ-loop
 put-requires c κs = search needs
 
--- src/main.rt:148:17
 show-requires : tie.Need-show-requires Inv-loop μ-loop
 show-requires c κs = search needs
 
--- src/main.rt:149:17
 show-requires-2 : tie.Need-show-requires-2 Inv-loop μ-loop
 show-requires-2 c κs = search needs
 
--- src/main.rt:150:21
 slice-aggregate-put-2 : tie.Need-slice-aggregate-put-2 Inv-loop μ-loop
 slice-aggregate-put-2 c = search needs
 
--- src/main.rt:150:17
 put-requires-2 : tie.Need-put-requires-2 Inv-loop μ-loop
 put-requires-2 c κs = search needs
 
--- src/main.rt:152:17
 sub-left : tie.Need-sub-left Inv-loop μ-loop
 sub-left c = search needs
 
--- src/main.rt:143:5
 loop-less : tie.Need-loop-less Inv-loop μ-loop
 loop-less c = search needs
 
--- src/main.rt:143:5
 loop-again : tie.Need-loop-again Inv-loop μ-loop
 loop-again c = search needs
 
--- src/main.rt:140:1
 returns-2 : tie.Need-returns-2 Inv-loop μ-loop
 returns-2 c = search needs
 

@@ -6,23 +6,18 @@ use Rattle.cavewatch.proofs.list.Lts as lts
 use Rattle.listing.proofs.whole.list_book.Reads as list-book-reads
 use Rattle.cavewatch.proofs.Answered.{listed, listed-counts, never-refused}
 
--- src/main.rt:43:9
 list-book-requires : tie.Need-list-book-requires
 list-book-requires c κs = search needs
 
--- src/main.rt:45:22
 enum-known-answer : tie.Need-enum-known-answer
 enum-known-answer c = search needs
 
--- src/main.rt:46:13
 returns : tie.Need-returns
 returns c = search (needs, listed, listed-counts)
 
--- src/main.rt:49:13
 enum-told : tie.Need-enum-told
 enum-told c = search needs
 
--- src/main.rt:49:13
 returns-2 : tie.Need-returns-2
 returns-2 c = search (needs, never-refused)
 

@@ -10,75 +10,57 @@ use Rattle.io.proofs.large_buffer.Reads as large-buffer-reads
 use Rattle.io.proofs.write_all.Reads as write-all-reads
 use Rattle.os.proofs.fail.Reads as fail-reads
 
--- src/main.rt:55:20
 large-buffer-requires : tie.Need-large-buffer-requires
 large-buffer-requires c κs = search needs
 
--- src/main.rt:56:42
 slice-aggregate-read-input : tie.Need-slice-aggregate-read-input
 slice-aggregate-read-input c = search needs
 
--- src/main.rt:56:9
 read-input-requires : tie.Need-read-input-requires
 read-input-requires c κs = search needs
 
--- src/main.rt:59:22
 enum-told : tie.Need-enum-told
 enum-told c = search needs
 
--- src/main.rt:59:22
 slice-aggregate-fail : tie.Need-slice-aggregate-fail
 slice-aggregate-fail c = search needs
 
--- src/main.rt:59:13
 fail-requires : tie.Need-fail-requires
 fail-requires c κs = search needs
 
--- src/main.rt:61:22
 enum-known-input : tie.Need-enum-known-input
 enum-known-input c = search needs
 
--- src/main.rt:63:26
 array-share-prefix-text : tie.Need-array-share-prefix-text
 array-share-prefix-text c = search (needs, got-low)
 
--- src/main.rt:63:26
 slice-aggregate-list : tie.Need-slice-aggregate-list
 slice-aggregate-list c = search (needs, got-same)
 
--- src/main.rt:63:17
 list-requires : tie.Need-list-requires
 list-requires c κs = search needs
 
--- src/main.rt:64:46
 array-share-prefix-out : tie.Need-array-share-prefix-out
 array-share-prefix-out c = search needs
 
--- src/main.rt:64:46
 slice-aggregate-write-all : tie.Need-slice-aggregate-write-all
 slice-aggregate-write-all c = search needs
 
--- src/main.rt:64:17
 write-all-requires : tie.Need-write-all-requires
 write-all-requires c κs = search needs
 
--- src/main.rt:65:26
 slice-aggregate-fail-2 : tie.Need-slice-aggregate-fail-2
 slice-aggregate-fail-2 c = search needs
 
--- src/main.rt:65:17
 fail-requires-2 : tie.Need-fail-requires-2
 fail-requires-2 c κs = search needs
 
--- src/main.rt:54:1
 returns : tie.Need-returns
 returns c = search needs
 
--- src/main.rt:54:1
 returns-2 : tie.Need-returns-2
 returns-2 c = search needs
 
--- src/main.rt:54:1
 returns-3 : tie.Need-returns-3
 returns-3 c = search needs
 

@@ -18,71 +18,54 @@ Inv-loop fd buf₀ n₀ buf n = (length buf ≡ length buf₀) × (n ≤ length 
 abbrev μ-loop : tie.MeasureT-loop
 μ-loop fd buf₀ n₀ buf n = length buf - n
 
--- src/main.rt:38:5
 loop-holds : tie.Need-loop-holds Inv-loop μ-loop
 loop-holds c = search needs
 
--- src/main.rt:39:34
 sub-read : tie.Need-sub-read Inv-loop μ-loop
 sub-read c = search needs
 
--- src/main.rt:39:34
 part-read-start : tie.Need-part-read-start Inv-loop μ-loop
 part-read-start c = search needs
 
--- src/main.rt:39:34
 part-read-end : tie.Need-part-read-end Inv-loop μ-loop
 part-read-end c = search needs
 
--- src/main.rt:39:13
 read-requires : tie.Need-read-requires Inv-loop μ-loop
 read-requires c κs = search needs
 
--- src/main.rt:40:31
 sub-taken : tie.Need-sub-taken Inv-loop μ-loop
 sub-taken c = search needs
 
--- src/main.rt:40:31
 part-taken-start : tie.Need-part-taken-start Inv-loop μ-loop
 part-taken-start c = search needs
 
--- src/main.rt:40:31
 part-taken-end : tie.Need-part-taken-end Inv-loop μ-loop
 part-taken-end c = search needs
 
--- src/main.rt:40:13
 taken-requires : tie.Need-taken-requires Inv-loop μ-loop
 taken-requires c κs = search needs
 
--- src/main.rt:43:17
 enum-told : tie.Need-enum-told Inv-loop μ-loop
 enum-told c = search needs
 
--- src/main.rt:43:17
 same-length : tie.Need-same-length Inv-loop μ-loop
 same-length c = search needs
 
--- src/main.rt:43:17
 returns : tie.Need-returns Inv-loop μ-loop
 returns c = search needs
 
--- src/main.rt:46:17
 enum-told-2 : tie.Need-enum-told-2 Inv-loop μ-loop
 enum-told-2 c = search needs
 
--- src/main.rt:46:17
 same-length-2 : tie.Need-same-length-2 Inv-loop μ-loop
 same-length-2 c = search needs
 
--- src/main.rt:46:17
 returns-2 : tie.Need-returns-2 Inv-loop μ-loop
 returns-2 c = counts _ _ (omega arith)
 
--- src/main.rt:48:24
 enum-known-gave : tie.Need-enum-known-gave Inv-loop μ-loop
 enum-known-gave c = search needs
 
--- src/main.rt:49:17
 add-n : tie.Need-add-n Inv-loop μ-loop
 add-n c =
     let k = c .before .gave .given .0 .0 in
@@ -90,7 +73,6 @@ add-n c =
     let within = more-within _ _ _ k (c .before .before .before .taken .ensures) (search needs) in
     omega (arith, low, within)
 
--- src/main.rt:38:5
 loop-less : tie.Need-loop-less Inv-loop μ-loop
 loop-less c =
     let k = c .before .gave .given .0 .0 in
@@ -98,7 +80,6 @@ loop-less c =
     let within = more-within _ _ _ k (c .before .before .before .taken .ensures) (search needs) in
     omega (arith, low, within)
 
--- src/main.rt:38:5
 loop-again : tie.Need-loop-again Inv-loop μ-loop
 loop-again c =
     let k = c .before .gave .given .0 .0 in
@@ -106,11 +87,9 @@ loop-again c =
     let within = more-within _ _ _ k (c .before .before .before .taken .ensures) (search needs) in
     (omega arith, omega (arith, within))
 
--- src/main.rt:34:1
 same-length-3 : tie.Need-same-length-3 Inv-loop μ-loop
 same-length-3 c = search needs
 
--- src/main.rt:34:1
 returns-3 : tie.Need-returns-3 Inv-loop μ-loop
 returns-3 c = search (needs, counts)
 

@@ -6,19 +6,15 @@ use Rattle.cavewatch.proofs.taken.Lts as lts
 use Rattle.io.proofs.count.Reads as count-reads
 use Rattle.cavewatch.proofs.Reading.{broke, ended, more}
 
--- src/main.rt:24:9
 returns : tie.Need-returns
 returns c = search (needs, broke)
 
--- src/main.rt:26:9
 count-requires : tie.Need-count-requires
 count-requires c κs = search needs
 
--- src/main.rt:28:9
 returns-2 : tie.Need-returns-2
 returns-2 c = search (needs, ended)
 
--- src/main.rt:20:1
 returns-3 : tie.Need-returns-3
 returns-3 c = search (needs, more)
 

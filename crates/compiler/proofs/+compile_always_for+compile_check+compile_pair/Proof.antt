@@ -79,7 +79,6 @@ compile-pair-below t =
     (falls 3 compile-pair-kinds.ps _<_ μ-compile-pair t)
     compile-pair.Pre
 
--- src/compile.rt:226:9
 compile-always-for-returns : (t : ℕ) → compile-always-for-lts.Need-returns (
   upto-reads.Asked,
   upto-reads.Learnt,
@@ -88,7 +87,6 @@ compile-always-for-returns : (t : ℕ) → compile-always-for-lts.Need-returns (
 ) (compile-always-for-at t) compile-always-for.Post
 compile-always-for-returns t c = search (needs, always-for-under)
 
--- src/compile.rt:228:13
 compile-always-for-mul-b : (t : ℕ) → compile-always-for-lts.Need-mul-b (
   upto-reads.Asked,
   upto-reads.Learnt,
@@ -97,7 +95,6 @@ compile-always-for-mul-b : (t : ℕ) → compile-always-for-lts.Need-mul-b (
 ) (compile-always-for-at t) compile-always-for.Post
 compile-always-for-mul-b t c = search (needs, ready-in-nums)
 
--- src/compile.rt:228:13
 compile-always-for-shared-slice-read-b : (t : ℕ) → compile-always-for-lts.Need-shared-slice-read-b (
   upto-reads.Asked,
   upto-reads.Learnt,
@@ -106,7 +103,6 @@ compile-always-for-shared-slice-read-b : (t : ℕ) → compile-always-for-lts.Ne
 ) (compile-always-for-at t) compile-always-for.Post
 compile-always-for-shared-slice-read-b t c = search (needs, ready-in-nums)
 
--- src/compile.rt:230:9
 compile-always-for-returns-2 : (t : ℕ) → compile-always-for-lts.Need-returns-2 (
   upto-reads.Asked,
   upto-reads.Learnt,
@@ -115,7 +111,6 @@ compile-always-for-returns-2 : (t : ℕ) → compile-always-for-lts.Need-returns
 ) (compile-always-for-at t) compile-always-for.Post
 compile-always-for-returns-2 t c = search (needs, always-for-zero)
 
--- src/compile.rt:232:30
 compile-always-for-add-compile-check : (t : ℕ) → compile-always-for-lts.Need-add-compile-check (
   upto-reads.Asked,
   upto-reads.Learnt,
@@ -124,7 +119,6 @@ compile-always-for-add-compile-check : (t : ℕ) → compile-always-for-lts.Need
 ) (compile-always-for-at t) compile-always-for.Post
 compile-always-for-add-compile-check t c = search needs
 
--- src/compile.rt:232:55
 compile-always-for-sub-upto : (t : ℕ) → compile-always-for-lts.Need-sub-upto (
   upto-reads.Asked,
   upto-reads.Learnt,
@@ -133,7 +127,6 @@ compile-always-for-sub-upto : (t : ℕ) → compile-always-for-lts.Need-sub-upto
 ) (compile-always-for-at t) compile-always-for.Post
 compile-always-for-sub-upto t c = search needs
 
--- src/compile.rt:232:37
 compile-always-for-upto-requires : (t : ℕ) → compile-always-for-lts.Need-upto-requires (
   upto-reads.Asked,
   upto-reads.Learnt,
@@ -142,7 +135,6 @@ compile-always-for-upto-requires : (t : ℕ) → compile-always-for-lts.Need-upt
 ) (compile-always-for-at t) compile-always-for.Post
 compile-always-for-upto-requires t c κs = search needs
 
--- src/compile.rt:232:5
 compile-always-for-compile-check-requires :
     (t : ℕ) → compile-always-for-lts.Need-compile-check-requires (
       upto-reads.Asked,
@@ -155,7 +147,6 @@ compile-always-for-compile-check-requires t c κs = (
   ready-always-for _ _ _ _ _ _ (c .before .before .before .before .before .before .before .before .pre .1 .0) _ _ (c .before .before .before .before .before .before .before .before .pre .1 .1) (c .before .before .before .shared-slice-known3 .given (c .before .before .before .before .before .before .before .before .args .i) .fits) (c .before .before .if2 .left) (c .before .upto .ensures),
 )
 
--- src/compile.rt:221:1
 compile-always-for-same-length : (t : ℕ) → compile-always-for-lts.Need-same-length (
   upto-reads.Asked,
   upto-reads.Learnt,
@@ -164,7 +155,6 @@ compile-always-for-same-length : (t : ℕ) → compile-always-for-lts.Need-same-
 ) (compile-always-for-at t) compile-always-for.Post
 compile-always-for-same-length t c = search needs
 
--- src/compile.rt:221:1
 compile-always-for-returns-3 : (t : ℕ) → compile-always-for-lts.Need-returns-3 (
   upto-reads.Asked,
   upto-reads.Learnt,
@@ -173,7 +163,6 @@ compile-always-for-returns-3 : (t : ℕ) → compile-always-for-lts.Need-returns
 ) (compile-always-for-at t) compile-always-for.Post
 compile-always-for-returns-3 t c = search (needs, always-for-laid)
 
--- src/compile.rt:240:11
 compile-check-shared-slice-read-match : (t : ℕ) → compile-check-lts.Need-shared-slice-read-match (
   compile-not-reads.Asked,
   compile-not-reads.Learnt,
@@ -194,7 +183,6 @@ compile-check-shared-slice-read-match : (t : ℕ) → compile-check-lts.Need-sha
 ) (compile-check-at t) compile-check.Post
 compile-check-shared-slice-read-match t c = search (needs, ready-in-ops)
 
--- src/compile.rt:242:14
 compile-check-compile-not-requires : (t : ℕ) → compile-check-lts.Need-compile-not-requires (
   compile-not-reads.Asked,
   compile-not-reads.Learnt,
@@ -215,7 +203,6 @@ compile-check-compile-not-requires : (t : ℕ) → compile-check-lts.Need-compil
 ) (compile-check-at t) compile-check.Post
 compile-check-compile-not-requires t c κs = search needs
 
--- src/compile.rt:243:14
 compile-check-compile-next-requires : (t : ℕ) → compile-check-lts.Need-compile-next-requires (
   compile-not-reads.Asked,
   compile-not-reads.Learnt,
@@ -236,7 +223,6 @@ compile-check-compile-next-requires : (t : ℕ) → compile-check-lts.Need-compi
 ) (compile-check-at t) compile-check.Post
 compile-check-compile-next-requires t c κs = search needs
 
--- src/compile.rt:244:39
 compile-check-add-compile-check : (t : ℕ) → compile-check-lts.Need-add-compile-check (
   compile-not-reads.Asked,
   compile-not-reads.Learnt,
@@ -257,7 +243,6 @@ compile-check-add-compile-check : (t : ℕ) → compile-check-lts.Need-add-compi
 ) (compile-check-at t) compile-check.Post
 compile-check-add-compile-check t c = search needs
 
--- src/compile.rt:244:14
 compile-check-compile-check-requires : (t : ℕ) → compile-check-lts.Need-compile-check-requires (
   compile-not-reads.Asked,
   compile-not-reads.Learnt,
@@ -278,7 +263,6 @@ compile-check-compile-check-requires : (t : ℕ) → compile-check-lts.Need-comp
 ) (compile-check-at t) compile-check.Post
 compile-check-compile-check-requires t c κs = search (needs, ready-always, falls-operand)
 
--- src/compile.rt:245:14
 compile-check-compile-always-for-requires :
     (t : ℕ) → compile-check-lts.Need-compile-always-for-requires (
       compile-not-reads.Asked,
@@ -300,7 +284,6 @@ compile-check-compile-always-for-requires :
     ) (compile-check-at t) compile-check.Post
 compile-check-compile-always-for-requires t c κs = search (needs, falls-to-part)
 
--- src/compile.rt:246:14
 compile-check-compile-within-requires : (t : ℕ) → compile-check-lts.Need-compile-within-requires (
   compile-not-reads.Asked,
   compile-not-reads.Learnt,
@@ -321,7 +304,6 @@ compile-check-compile-within-requires : (t : ℕ) → compile-check-lts.Need-com
 ) (compile-check-at t) compile-check.Post
 compile-check-compile-within-requires t c κs = search needs
 
--- src/compile.rt:248:15
 compile-check-compile-implies-requires : (t : ℕ) → compile-check-lts.Need-compile-implies-requires (
   compile-not-reads.Asked,
   compile-not-reads.Learnt,
@@ -342,7 +324,6 @@ compile-check-compile-implies-requires : (t : ℕ) → compile-check-lts.Need-co
 ) (compile-check-at t) compile-check.Post
 compile-check-compile-implies-requires t c κs = search needs
 
--- src/compile.rt:241:22
 compile-check-compile-atom-requires : (t : ℕ) → compile-check-lts.Need-compile-atom-requires (
   compile-not-reads.Asked,
   compile-not-reads.Learnt,
@@ -363,7 +344,6 @@ compile-check-compile-atom-requires : (t : ℕ) → compile-check-lts.Need-compi
 ) (compile-check-at t) compile-check.Post
 compile-check-compile-atom-requires t c κs = search needs
 
--- src/compile.rt:247:19
 compile-check-compile-pair-requires : (t : ℕ) → compile-check-lts.Need-compile-pair-requires (
   compile-not-reads.Asked,
   compile-not-reads.Learnt,
@@ -384,7 +364,6 @@ compile-check-compile-pair-requires : (t : ℕ) → compile-check-lts.Need-compi
 ) (compile-check-at t) compile-check.Post
 compile-check-compile-pair-requires t c κs = search (needs, falls-to-part, from-joins)
 
--- src/compile.rt:236:1
 compile-check-same-length : (t : ℕ) → compile-check-lts.Need-same-length (
   compile-not-reads.Asked,
   compile-not-reads.Learnt,
@@ -405,7 +384,6 @@ compile-check-same-length : (t : ℕ) → compile-check-lts.Need-same-length (
 ) (compile-check-at t) compile-check.Post
 compile-check-same-length t c = search needs
 
--- src/compile.rt:236:1
 compile-check-returns : (t : ℕ) → compile-check-lts.Need-returns (
   compile-not-reads.Asked,
   compile-not-reads.Learnt,
@@ -426,7 +404,6 @@ compile-check-returns : (t : ℕ) → compile-check-lts.Need-returns (
 ) (compile-check-at t) compile-check.Post
 compile-check-returns t c = search (needs, always-laid)
 
--- src/compile.rt:236:1
 compile-check-same-length-2 : (t : ℕ) → compile-check-lts.Need-same-length-2 (
   compile-not-reads.Asked,
   compile-not-reads.Learnt,
@@ -447,7 +424,6 @@ compile-check-same-length-2 : (t : ℕ) → compile-check-lts.Need-same-length-2
 ) (compile-check-at t) compile-check.Post
 compile-check-same-length-2 t c = search needs
 
--- src/compile.rt:236:1
 compile-check-returns-2 : (t : ℕ) → compile-check-lts.Need-returns-2 (
   compile-not-reads.Asked,
   compile-not-reads.Learnt,
@@ -468,7 +444,6 @@ compile-check-returns-2 : (t : ℕ) → compile-check-lts.Need-returns-2 (
 ) (compile-check-at t) compile-check.Post
 compile-check-returns-2 t c = search (needs, always-laid)
 
--- src/compile.rt:236:1
 compile-check-same-length-3 : (t : ℕ) → compile-check-lts.Need-same-length-3 (
   compile-not-reads.Asked,
   compile-not-reads.Learnt,
@@ -489,7 +464,6 @@ compile-check-same-length-3 : (t : ℕ) → compile-check-lts.Need-same-length-3
 ) (compile-check-at t) compile-check.Post
 compile-check-same-length-3 t c = search needs
 
--- src/compile.rt:236:1
 compile-check-returns-3 : (t : ℕ) → compile-check-lts.Need-returns-3 (
   compile-not-reads.Asked,
   compile-not-reads.Learnt,
@@ -510,7 +484,6 @@ compile-check-returns-3 : (t : ℕ) → compile-check-lts.Need-returns-3 (
 ) (compile-check-at t) compile-check.Post
 compile-check-returns-3 t c = search (needs, always-laid)
 
--- src/compile.rt:236:1
 compile-check-same-length-4 : (t : ℕ) → compile-check-lts.Need-same-length-4 (
   compile-not-reads.Asked,
   compile-not-reads.Learnt,
@@ -531,7 +504,6 @@ compile-check-same-length-4 : (t : ℕ) → compile-check-lts.Need-same-length-4
 ) (compile-check-at t) compile-check.Post
 compile-check-same-length-4 t c = search needs
 
--- src/compile.rt:236:1
 compile-check-returns-4 : (t : ℕ) → compile-check-lts.Need-returns-4 (
   compile-not-reads.Asked,
   compile-not-reads.Learnt,
@@ -552,7 +524,6 @@ compile-check-returns-4 : (t : ℕ) → compile-check-lts.Need-returns-4 (
 ) (compile-check-at t) compile-check.Post
 compile-check-returns-4 t c = search (needs, always-laid)
 
--- src/compile.rt:236:1
 compile-check-same-length-5 : (t : ℕ) → compile-check-lts.Need-same-length-5 (
   compile-not-reads.Asked,
   compile-not-reads.Learnt,
@@ -573,7 +544,6 @@ compile-check-same-length-5 : (t : ℕ) → compile-check-lts.Need-same-length-5
 ) (compile-check-at t) compile-check.Post
 compile-check-same-length-5 t c = search needs
 
--- src/compile.rt:236:1
 compile-check-returns-5 : (t : ℕ) → compile-check-lts.Need-returns-5 (
   compile-not-reads.Asked,
   compile-not-reads.Learnt,
@@ -594,7 +564,6 @@ compile-check-returns-5 : (t : ℕ) → compile-check-lts.Need-returns-5 (
 ) (compile-check-at t) compile-check.Post
 compile-check-returns-5 t c = search (needs, always-laid)
 
--- src/compile.rt:236:1
 compile-check-same-length-6 : (t : ℕ) → compile-check-lts.Need-same-length-6 (
   compile-not-reads.Asked,
   compile-not-reads.Learnt,
@@ -615,7 +584,6 @@ compile-check-same-length-6 : (t : ℕ) → compile-check-lts.Need-same-length-6
 ) (compile-check-at t) compile-check.Post
 compile-check-same-length-6 t c = search needs
 
--- src/compile.rt:236:1
 compile-check-returns-6 : (t : ℕ) → compile-check-lts.Need-returns-6 (
   compile-not-reads.Asked,
   compile-not-reads.Learnt,
@@ -636,7 +604,6 @@ compile-check-returns-6 : (t : ℕ) → compile-check-lts.Need-returns-6 (
 ) (compile-check-at t) compile-check.Post
 compile-check-returns-6 t c = search (needs, always-laid)
 
--- src/compile.rt:236:1
 compile-check-same-length-7 : (t : ℕ) → compile-check-lts.Need-same-length-7 (
   compile-not-reads.Asked,
   compile-not-reads.Learnt,
@@ -657,7 +624,6 @@ compile-check-same-length-7 : (t : ℕ) → compile-check-lts.Need-same-length-7
 ) (compile-check-at t) compile-check.Post
 compile-check-same-length-7 t c = search needs
 
--- src/compile.rt:236:1
 compile-check-returns-7 : (t : ℕ) → compile-check-lts.Need-returns-7 (
   compile-not-reads.Asked,
   compile-not-reads.Learnt,
@@ -678,7 +644,6 @@ compile-check-returns-7 : (t : ℕ) → compile-check-lts.Need-returns-7 (
 ) (compile-check-at t) compile-check.Post
 compile-check-returns-7 t c = search (needs, always-laid)
 
--- src/compile.rt:236:1
 compile-check-same-length-8 : (t : ℕ) → compile-check-lts.Need-same-length-8 (
   compile-not-reads.Asked,
   compile-not-reads.Learnt,
@@ -699,7 +664,6 @@ compile-check-same-length-8 : (t : ℕ) → compile-check-lts.Need-same-length-8
 ) (compile-check-at t) compile-check.Post
 compile-check-same-length-8 t c = search needs
 
--- src/compile.rt:236:1
 compile-check-returns-8 : (t : ℕ) → compile-check-lts.Need-returns-8 (
   compile-not-reads.Asked,
   compile-not-reads.Learnt,
@@ -720,7 +684,6 @@ compile-check-returns-8 : (t : ℕ) → compile-check-lts.Need-returns-8 (
 ) (compile-check-at t) compile-check.Post
 compile-check-returns-8 t c = search (needs, always-laid)
 
--- src/compile.rt:236:1
 compile-check-returns-9 : (t : ℕ) → compile-check-lts.Need-returns-9 (
   compile-not-reads.Asked,
   compile-not-reads.Learnt,
@@ -741,7 +704,6 @@ compile-check-returns-9 : (t : ℕ) → compile-check-lts.Need-returns-9 (
 ) (compile-check-at t) compile-check.Post
 compile-check-returns-9 t c = search (needs, eventually-refused)
 
--- src/compile.rt:236:1
 compile-check-returns-10 : (t : ℕ) → compile-check-lts.Need-returns-10 (
   compile-not-reads.Asked,
   compile-not-reads.Learnt,
@@ -762,7 +724,6 @@ compile-check-returns-10 : (t : ℕ) → compile-check-lts.Need-returns-10 (
 ) (compile-check-at t) compile-check.Post
 compile-check-returns-10 t c = search (needs, until-refused)
 
--- src/compile.rt:212:33
 compile-pair-shared-slice-read-join-node :
     (t : ℕ) → compile-pair-lts.Need-shared-slice-read-join-node (
       join-node-reads.Asked,
@@ -774,7 +735,6 @@ compile-pair-shared-slice-read-join-node :
     ) (compile-pair-at t) compile-pair.Post
 compile-pair-shared-slice-read-join-node t c = search (needs, ready-in-ops)
 
--- src/compile.rt:212:23
 compile-pair-join-node-requires : (t : ℕ) → compile-pair-lts.Need-join-node-requires (
   join-node-reads.Asked,
   join-node-reads.Learnt,
@@ -785,7 +745,6 @@ compile-pair-join-node-requires : (t : ℕ) → compile-pair-lts.Need-join-node-
 ) (compile-pair-at t) compile-pair.Post
 compile-pair-join-node-requires t c κs = search needs
 
--- src/compile.rt:212:5
 compile-pair-put-node-requires : (t : ℕ) → compile-pair-lts.Need-put-node-requires (
   join-node-reads.Asked,
   join-node-reads.Learnt,
@@ -796,7 +755,6 @@ compile-pair-put-node-requires : (t : ℕ) → compile-pair-lts.Need-put-node-re
 ) (compile-pair-at t) compile-pair.Post
 compile-pair-put-node-requires t c κs = search (needs, ready-room, join-numbered)
 
--- src/compile.rt:213:41
 compile-pair-add-compile-check : (t : ℕ) → compile-pair-lts.Need-add-compile-check (
   join-node-reads.Asked,
   join-node-reads.Learnt,
@@ -807,7 +765,6 @@ compile-pair-add-compile-check : (t : ℕ) → compile-pair-lts.Need-add-compile
 ) (compile-pair-at t) compile-pair.Post
 compile-pair-add-compile-check t c = search needs
 
--- src/compile.rt:213:70
 compile-pair-add-compile-check-2 : (t : ℕ) → compile-pair-lts.Need-add-compile-check-2 (
   join-node-reads.Asked,
   join-node-reads.Learnt,
@@ -818,7 +775,6 @@ compile-pair-add-compile-check-2 : (t : ℕ) → compile-pair-lts.Need-add-compi
 ) (compile-pair-at t) compile-pair.Post
 compile-pair-add-compile-check-2 t c = search needs
 
--- src/compile.rt:213:9
 compile-pair-compile-check-requires : (t : ℕ) → compile-pair-lts.Need-compile-check-requires (
   join-node-reads.Asked,
   join-node-reads.Learnt,
@@ -829,7 +785,6 @@ compile-pair-compile-check-requires : (t : ℕ) → compile-pair-lts.Need-compil
 ) (compile-pair-at t) compile-pair.Post
 compile-pair-compile-check-requires t c κs = search (needs, ready-left, falls-from-part)
 
--- src/compile.rt:214:20
 compile-pair-enum-known-left : (t : ℕ) → compile-pair-lts.Need-enum-known-left (
   join-node-reads.Asked,
   join-node-reads.Learnt,
@@ -840,7 +795,6 @@ compile-pair-enum-known-left : (t : ℕ) → compile-pair-lts.Need-enum-known-le
 ) (compile-pair-at t) compile-pair.Post
 compile-pair-enum-known-left t c = search needs
 
--- src/compile.rt:215:9
 compile-pair-enum-told : (t : ℕ) → compile-pair-lts.Need-enum-told (
   join-node-reads.Asked,
   join-node-reads.Learnt,
@@ -851,7 +805,6 @@ compile-pair-enum-told : (t : ℕ) → compile-pair-lts.Need-enum-told (
 ) (compile-pair-at t) compile-pair.Post
 compile-pair-enum-told t c = search needs
 
--- src/compile.rt:215:9
 compile-pair-same-length : (t : ℕ) → compile-pair-lts.Need-same-length (
   join-node-reads.Asked,
   join-node-reads.Learnt,
@@ -862,7 +815,6 @@ compile-pair-same-length : (t : ℕ) → compile-pair-lts.Need-same-length (
 ) (compile-pair-at t) compile-pair.Post
 compile-pair-same-length t c = search needs
 
--- src/compile.rt:215:9
 compile-pair-returns : (t : ℕ) → compile-pair-lts.Need-returns (
   join-node-reads.Asked,
   join-node-reads.Learnt,
@@ -873,7 +825,6 @@ compile-pair-returns : (t : ℕ) → compile-pair-lts.Need-returns (
 ) (compile-pair-at t) compile-pair.Post
 compile-pair-returns t c = search (needs, pair-refused)
 
--- src/compile.rt:217:5
 compile-pair-compile-check-requires-2 : (t : ℕ) → compile-pair-lts.Need-compile-check-requires-2 (
   join-node-reads.Asked,
   join-node-reads.Learnt,
@@ -887,7 +838,6 @@ compile-pair-compile-check-requires-2 t c κs = (
   ready-right _ _ _ _ _ (c .before .before .before .before .before .before .before .before .before .before .before .before .before .before .before .before .before .pre .1 .1) (c .before .before .before .before .before .before .before .before .before .before .before .before .before .before .before .before .before .pre .1 .2) _ _ _ _ (c .before .before .before .before .before .before .before .before .before .before .before .join-node .ensures) (c .before .before .before .before .before .before .before .before .before .before .put-node .ensures) _ _ (c .before .before .before .before .before .before .compile-check .ensures) (c .before .before .left .given .0 .0) (c .before .before .left .given .0 .1 .0) (search needs) (c .before .before .before .before .before .before .before .before .before .before .before .before .before .before .before .before .before .pre .1 .0),
 )
 
--- src/compile.rt:208:1
 compile-pair-same-length-2 : (t : ℕ) → compile-pair-lts.Need-same-length-2 (
   join-node-reads.Asked,
   join-node-reads.Learnt,
@@ -898,7 +848,6 @@ compile-pair-same-length-2 : (t : ℕ) → compile-pair-lts.Need-same-length-2 (
 ) (compile-pair-at t) compile-pair.Post
 compile-pair-same-length-2 t c = search needs
 
--- src/compile.rt:208:1
 compile-pair-returns-2 : (t : ℕ) → compile-pair-lts.Need-returns-2 (
   join-node-reads.Asked,
   join-node-reads.Learnt,

@@ -6,15 +6,12 @@ use Rattle.compiler.proofs.anchored.Reads as reads
 use Rattle.compiler.proofs.anchored.Lts as lts
 use Rattle.monitor.proofs.range.AnchorRange.upto.Reads as upto-reads
 
--- src/compile.rt:103:9
 returns : tie.Need-returns
 returns c = search (needs, anchored-yes)
 
--- src/compile.rt:105:5
 upto-requires : tie.Need-upto-requires
 upto-requires c κs = search needs
 
--- src/compile.rt:99:1
 returns-2 : tie.Need-returns-2
 returns-2 c = search (needs, anchored-not)
 

@@ -6,19 +6,15 @@ use Rattle.compiler.proofs.compile_atom.Reads as reads
 use Rattle.compiler.proofs.compile_atom.Lts as lts
 use Rattle.compiler.proofs.lay.Reads as lay-reads
 
--- src/compile.rt:51:24
 add-lay : tie.Need-add-lay
 add-lay c = search needs
 
--- src/compile.rt:51:5
 lay-requires : tie.Need-lay-requires
 lay-requires c κs = search (needs, ready-room, place-fits)
 
--- src/compile.rt:35:1
 same-length : tie.Need-same-length
 same-length c = search needs
 
--- src/compile.rt:35:1
 returns : tie.Need-returns
 returns c = search (needs, atom-laid)
 

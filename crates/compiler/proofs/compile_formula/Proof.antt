@@ -9,35 +9,27 @@ use Rattle.formula.proofs.table.is_roomy.Reads as is-roomy-reads
 use Rattle.formula.proofs.table.is_rule.Reads as is-rule-reads
 use Rattle.compiler.proofs.compile_rule.Reads as compile-rule-reads
 
--- src/compile.rt:292:9
 returns : tie.Need-returns
 returns c = search (needs, short-out)
 
--- src/compile.rt:294:8
 is-roomy-requires : tie.Need-is-roomy-requires
 is-roomy-requires c κs = search needs
 
--- src/compile.rt:295:12
 is-rule-requires : tie.Need-is-rule-requires
 is-rule-requires c κs = search needs
 
--- src/compile.rt:296:13
 compile-rule-requires : tie.Need-compile-rule-requires
 compile-rule-requires c κs = search (needs, is-a-rule)
 
--- src/compile.rt:296:13
 same-length : tie.Need-same-length
 same-length c = search needs
 
--- src/compile.rt:296:13
 returns-2 : tie.Need-returns-2
 returns-2 c = search (needs, goes-on)
 
--- src/compile.rt:298:9
 returns-3 : tie.Need-returns-3
 returns-3 c = search (needs, no-rule)
 
--- src/compile.rt:288:1
 returns-4 : tie.Need-returns-4
 returns-4 c = search (needs, short-table)
 

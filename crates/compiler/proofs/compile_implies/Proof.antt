@@ -9,63 +9,48 @@ use Rattle.compiler.proofs.compile_delayed.Reads as compile-delayed-rea
 use Rattle.compiler.proofs.compile_owed.Reads as compile-owed-reads
 use Rattle.compiler.proofs.compile_pure_implies.Reads as compile-pure-implies-reads
 
--- src/compile.rt:184:44
 add-pure-at : tie.Need-add-pure-at
 add-pure-at c = search needs
 
--- src/compile.rt:184:25
 pure-at-requires : tie.Need-pure-at-requires
 pure-at-requires c κs = search (needs, placed-antecedent)
 
--- src/compile.rt:184:20
 enum-known-j : tie.Need-enum-known-j
 enum-known-j c = search needs
 
--- src/compile.rt:185:9
 enum-told : tie.Need-enum-told
 enum-told c = search needs
 
--- src/compile.rt:185:9
 returns : tie.Need-returns
 returns c = search (needs, antecedent-refused)
 
--- src/compile.rt:187:14
 shared-slice-read-op : tie.Need-shared-slice-read-op
 shared-slice-read-op c = search (needs, consequent-in)
 
--- src/compile.rt:189:9
 compile-owed-requires : tie.Need-compile-owed-requires
 compile-owed-requires c κs = search (needs, implied)
 
--- src/compile.rt:189:9
 same-length : tie.Need-same-length
 same-length c = search needs
 
--- src/compile.rt:189:9
 returns-2 : tie.Need-returns-2
 returns-2 c = search needs
 
--- src/compile.rt:192:9
 compile-delayed-requires : tie.Need-compile-delayed-requires
 compile-delayed-requires c κs = search (needs, implied)
 
--- src/compile.rt:192:9
 same-length-2 : tie.Need-same-length-2
 same-length-2 c = search needs
 
--- src/compile.rt:192:9
 returns-3 : tie.Need-returns-3
 returns-3 c = search needs
 
--- src/compile.rt:194:5
 compile-pure-implies-requires : tie.Need-compile-pure-implies-requires
 compile-pure-implies-requires c κs = search (needs, implied)
 
--- src/compile.rt:180:1
 same-length-3 : tie.Need-same-length-3
 same-length-3 c = search needs
 
--- src/compile.rt:180:1
 returns-4 : tie.Need-returns-4
 returns-4 c = search needs
 

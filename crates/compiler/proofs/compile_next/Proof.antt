@@ -8,43 +8,33 @@ use Rattle.formula.proofs.signal.pure_at.Reads as pure-at-reads
 use Rattle.compiler.proofs.lay.Reads as lay-reads
 use Rattle.monitor.proofs.range.AnchorRange.shifted.Reads as shifted-reads
 
--- src/compile.rt:88:44
 add-pure-at : tie.Need-add-pure-at
 add-pure-at c = search needs
 
--- src/compile.rt:88:25
 pure-at-requires : tie.Need-pure-at-requires
 pure-at-requires c κs = search (needs, placed-of-next)
 
--- src/compile.rt:88:20
 enum-known-e : tie.Need-enum-known-e
 enum-known-e c = search needs
 
--- src/compile.rt:89:9
 enum-told : tie.Need-enum-told
 enum-told c = search needs
 
--- src/compile.rt:89:9
 returns : tie.Need-returns
 returns c = search (needs, next-refused)
 
--- src/compile.rt:92:30
 add-t11 : tie.Need-add-t11
 add-t11 c = search needs
 
--- src/compile.rt:93:16
 shifted-requires : tie.Need-shifted-requires
 shifted-requires c κs = search needs
 
--- src/compile.rt:95:5
 lay-requires : tie.Need-lay-requires
 lay-requires c κs = search (needs, ready-room, next-fits, placed-of-next)
 
--- src/compile.rt:76:1
 same-length : tie.Need-same-length
 same-length c = search needs
 
--- src/compile.rt:76:1
 returns-2 : tie.Need-returns-2
 returns-2 c = search (needs, next-laid)
 

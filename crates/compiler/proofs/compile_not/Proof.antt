@@ -7,35 +7,27 @@ use Rattle.compiler.proofs.compile_not.Lts as lts
 use Rattle.formula.proofs.signal.pure_at.Reads as pure-at-reads
 use Rattle.compiler.proofs.lay.Reads as lay-reads
 
--- src/compile.rt:66:44
 add-pure-at : tie.Need-add-pure-at
 add-pure-at c = search needs
 
--- src/compile.rt:66:25
 pure-at-requires : tie.Need-pure-at-requires
 pure-at-requires c κs = search (needs, placed-of-not)
 
--- src/compile.rt:66:20
 enum-known-e : tie.Need-enum-known-e
 enum-known-e c = search needs
 
--- src/compile.rt:67:9
 enum-told : tie.Need-enum-told
 enum-told c = search needs
 
--- src/compile.rt:67:9
 returns : tie.Need-returns
 returns c = search (needs, not-refused)
 
--- src/compile.rt:73:5
 lay-requires : tie.Need-lay-requires
 lay-requires c κs = search (needs, ready-room, place-fits)
 
--- src/compile.rt:54:1
 same-length : tie.Need-same-length
 same-length c = search needs
 
--- src/compile.rt:54:1
 returns-2 : tie.Need-returns-2
 returns-2 c = search (needs, not-laid)
 

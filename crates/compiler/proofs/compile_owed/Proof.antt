@@ -8,55 +8,42 @@ use Rattle.formula.proofs.signal.pure_at.Reads as pure-at-reads
 use Rattle.compiler.proofs.anchored.Reads as anchored-reads
 use Rattle.compiler.proofs.lay.Reads as lay-reads
 
--- src/compile.rt:137:44
 add-pure-at : tie.Need-add-pure-at
 add-pure-at c = search (needs, behind-fits)
 
--- src/compile.rt:137:25
 pure-at-requires : tie.Need-pure-at-requires
 pure-at-requires c κs = search (needs, placed-owed)
 
--- src/compile.rt:137:20
 enum-known-e : tie.Need-enum-known-e
 enum-known-e c = search needs
 
--- src/compile.rt:138:9
 enum-told : tie.Need-enum-told
 enum-told c = search needs
 
--- src/compile.rt:138:9
 returns : tie.Need-returns
 returns c = search (needs, owed-refused)
 
--- src/compile.rt:141:16
 mul-t12 : tie.Need-mul-t12
 mul-t12 c = search (needs, consequent-nums)
 
--- src/compile.rt:141:16
 shared-slice-read-t14 : tie.Need-shared-slice-read-t14
 shared-slice-read-t14 c = search (needs, consequent-nums)
 
--- src/compile.rt:142:33
 add-t15 : tie.Need-add-t15
 add-t15 c = search needs
 
--- src/compile.rt:143:30
 add-t17 : tie.Need-add-t17
 add-t17 c = search (needs, behind-fits)
 
--- src/compile.rt:144:16
 anchored-requires : tie.Need-anchored-requires
 anchored-requires c κs = search needs
 
--- src/compile.rt:146:5
 lay-requires : tie.Need-lay-requires
 lay-requires c κs = search (needs, implied-room, antecedent-fits, consequent-fits, placed-owed)
 
--- src/compile.rt:133:1
 same-length : tie.Need-same-length
 same-length c = search needs
 
--- src/compile.rt:133:1
 returns-2 : tie.Need-returns-2
 returns-2 c = search (needs, owed-laid)
 

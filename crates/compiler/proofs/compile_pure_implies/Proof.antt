@@ -7,31 +7,24 @@ use Rattle.compiler.proofs.compile_pure_implies.Lts as lts
 use Rattle.formula.proofs.signal.pure_at.Reads as pure-at-reads
 use Rattle.compiler.proofs.lay.Reads as lay-reads
 
--- src/compile.rt:170:25
 pure-at-requires : tie.Need-pure-at-requires
 pure-at-requires c κs = search (needs, placed-consequent)
 
--- src/compile.rt:170:20
 enum-known-e : tie.Need-enum-known-e
 enum-known-e c = search needs
 
--- src/compile.rt:171:9
 enum-told : tie.Need-enum-told
 enum-told c = search needs
 
--- src/compile.rt:171:9
 returns : tie.Need-returns
 returns c = search (needs, pure-refused)
 
--- src/compile.rt:177:5
 lay-requires : tie.Need-lay-requires
 lay-requires c κs = search (needs, implied-room, implied-fits)
 
--- src/compile.rt:166:1
 same-length : tie.Need-same-length
 same-length c = search needs
 
--- src/compile.rt:166:1
 returns-2 : tie.Need-returns-2
 returns-2 c = search (needs, pure-laid)
 

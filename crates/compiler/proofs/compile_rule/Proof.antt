@@ -9,51 +9,39 @@ use Rattle.compiler.proofs.copy.Reads as copy-reads
 use Rattle.compiler.proofs.refused.Reads as refused-reads
 use Rattle.monitor.proofs.range.AnchorRange.all.Reads as all-reads
 
--- src/compile.rt:279:48
 all-requires : tie.Need-all-requires
 all-requires c κs = search needs
 
--- src/compile.rt:279:75
 slice-aggregate-compile-check : tie.Need-slice-aggregate-compile-check
 slice-aggregate-compile-check c = search needs
 
--- src/compile.rt:279:9
 compile-check-requires : tie.Need-compile-check-requires
 compile-check-requires c κs = search (needs, ready-rule)
 
--- src/compile.rt:280:20
 enum-known-laid : tie.Need-enum-known-laid
 enum-known-laid c = search needs
 
--- src/compile.rt:281:9
 enum-told : tie.Need-enum-told
 enum-told c = search needs
 
--- src/compile.rt:281:9
 refused-requires : tie.Need-refused-requires
 refused-requires c κs = search needs
 
--- src/compile.rt:281:9
 returns : tie.Need-returns
 returns c = search (needs, rule-refused)
 
--- src/compile.rt:283:10
 slice-aggregate-copy : tie.Need-slice-aggregate-copy
 slice-aggregate-copy c = search needs
 
--- src/compile.rt:283:23
 mul-copy : tie.Need-mul-copy
 mul-copy c = search (needs, seven-fits)
 
--- src/compile.rt:283:5
 copy-requires : tie.Need-copy-requires
 copy-requires c κs = search (needs, aside-inside, seven-inside)
 
--- src/compile.rt:274:1
 same-length : tie.Need-same-length
 same-length c = search needs
 
--- src/compile.rt:274:1
 returns-2 : tie.Need-returns-2
 returns-2 c = search (needs, rule-compiled)
 

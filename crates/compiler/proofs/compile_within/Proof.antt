@@ -8,51 +8,39 @@ use Rattle.formula.proofs.signal.pure_at.Reads as pure-at-reads
 use Rattle.compiler.proofs.anchored.Reads as anchored-reads
 use Rattle.compiler.proofs.lay.Reads as lay-reads
 
--- src/compile.rt:120:44
 add-pure-at : tie.Need-add-pure-at
 add-pure-at c = search needs
 
--- src/compile.rt:120:25
 pure-at-requires : tie.Need-pure-at-requires
 pure-at-requires c κs = search (needs, placed-of-within)
 
--- src/compile.rt:120:20
 enum-known-e : tie.Need-enum-known-e
 enum-known-e c = search needs
 
--- src/compile.rt:121:9
 enum-told : tie.Need-enum-told
 enum-told c = search needs
 
--- src/compile.rt:121:9
 returns : tie.Need-returns
 returns c = search (needs, within-refused)
 
--- src/compile.rt:124:16
 mul-t11 : tie.Need-mul-t11
 mul-t11 c = search needs
 
--- src/compile.rt:124:16
 shared-slice-read-t13 : tie.Need-shared-slice-read-t13
 shared-slice-read-t13 c = search (needs, ready-in-nums)
 
--- src/compile.rt:126:30
 add-t15 : tie.Need-add-t15
 add-t15 c = search needs
 
--- src/compile.rt:127:16
 anchored-requires : tie.Need-anchored-requires
 anchored-requires c κs = search needs
 
--- src/compile.rt:129:5
 lay-requires : tie.Need-lay-requires
 lay-requires c κs = search (needs, ready-room, next-fits, placed-of-within)
 
--- src/compile.rt:108:1
 same-length : tie.Need-same-length
 same-length c = search needs
 
--- src/compile.rt:108:1
 returns-2 : tie.Need-returns-2
 returns-2 c = search (needs, within-laid)
 

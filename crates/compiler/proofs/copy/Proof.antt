@@ -12,43 +12,33 @@ Inv-loop from to₀ n i₀ to i = Copied from to₀ n to i
 abbrev μ-loop : tie.MeasureT-loop
 μ-loop from to₀ n i₀ to i = n - i
 
--- src/compile.rt:261:5
 loop-holds : tie.Need-loop-holds Inv-loop μ-loop
 loop-holds c = search (needs, copied-none)
 
--- src/compile.rt:262:17
 mul-to : tie.Need-mul-to Inv-loop μ-loop
 mul-to c = search needs
 
--- src/compile.rt:262:17
 shared-slice-read-to : tie.Need-shared-slice-read-to Inv-loop μ-loop
 shared-slice-read-to c = search needs
 
--- src/compile.rt:262:9
 mul-to-2 : tie.Need-mul-to-2 Inv-loop μ-loop
 mul-to-2 c = search needs
 
--- src/compile.rt:262:9
 slice-write-to : tie.Need-slice-write-to Inv-loop μ-loop
 slice-write-to c = search needs
 
--- src/compile.rt:263:9
 add-i : tie.Need-add-i Inv-loop μ-loop
 add-i c = search needs
 
--- src/compile.rt:261:5
 loop-less : tie.Need-loop-less Inv-loop μ-loop
 loop-less c = search needs
 
--- src/compile.rt:261:5
 loop-again : tie.Need-loop-again Inv-loop μ-loop
 loop-again c = search (needs, copied-more)
 
--- src/compile.rt:256:1
 same-length : tie.Need-same-length Inv-loop μ-loop
 same-length c = search (needs, copied-same)
 
--- src/compile.rt:256:1
 returns : tie.Need-returns Inv-loop μ-loop
 returns c = search (needs, copied-all)
 

@@ -5,11 +5,9 @@ use Rattle.compiler.proofs.join_node.Tie as tie
 use Rattle.compiler.proofs.join_node.Reads as reads
 use Rattle.compiler.proofs.join_node.Lts as lts
 
--- src/compile.rt:202:9
 returns : tie.Need-returns
 returns c = search (needs, join-and)
 
--- src/compile.rt:198:1
 returns-2 : tie.Need-returns-2
 returns-2 c = search (needs, join-or)
 

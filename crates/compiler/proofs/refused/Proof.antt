@@ -5,19 +5,15 @@ use Rattle.compiler.proofs.refused.Tie as tie
 use Rattle.compiler.proofs.refused.Reads as reads
 use Rattle.compiler.proofs.refused.Lts as lts
 
--- src/compile.rt:308:23
 enum-known-laid : tie.Need-enum-known-laid
 enum-known-laid c = search needs
 
--- src/compile.rt:309:29
 enum-told : tie.Need-enum-told
 enum-told c = search needs
 
--- src/compile.rt:304:1
 returns : tie.Need-returns
 returns c = search (needs, refused-as)
 
--- src/compile.rt:304:1
 returns-2 : tie.Need-returns-2
 returns-2 c = search (needs, upto-as)
 

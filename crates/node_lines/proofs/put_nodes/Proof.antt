@@ -19,59 +19,46 @@ Inv-loop out₀ at ops nums nodes nfirst ncount place₀ k₀ out place k =
 abbrev μ-loop : tie.MeasureT-loop
 μ-loop out₀ at ops nums nodes nfirst ncount place₀ k₀ out place k = ncount - k
 
--- src/lib.rt:23:5
 loop-holds : tie.Need-loop-holds Inv-loop μ-loop
 loop-holds c = search (needs, noded-first)
 
--- src/lib.rt:24:33
 add-row-at : tie.Need-add-row-at Inv-loop μ-loop
 add-row-at c =
     let s = c .before .before .before .before .before .before in
     let x = row-inside (s .args .ops .now) (s .args .nums .now) (s .args .nodes .now) (s .args .nfirst) (s .args .ncount) (c .before .loop .k) (s .pre) (c .loop-test .taken) in
     omega (arith, x, s .good .1 .1 .1 .1 .0 .0)
 
--- src/lib.rt:24:13
 row-at-requires : tie.Need-row-at-requires Inv-loop μ-loop
 row-at-requires c κs = search (needs, row-inside)
 
--- src/lib.rt:25:23
 enum-known-row : tie.Need-enum-known-row Inv-loop μ-loop
 enum-known-row c = search needs
 
--- src/lib.rt:26:13
 enum-told : tie.Need-enum-told Inv-loop μ-loop
 enum-told c = search needs
 
--- src/lib.rt:26:13
 same-length : tie.Need-same-length Inv-loop μ-loop
 same-length c = search needs
 
--- src/lib.rt:26:13
 returns : tie.Need-returns Inv-loop μ-loop
 returns c = search (needs, noded-unknown)
 
--- src/lib.rt:28:9
 put-node-requires : tie.Need-put-node-requires Inv-loop μ-loop
 put-node-requires c κs = search (needs, noded-ready)
 
--- src/lib.rt:29:9
 add-k : tie.Need-add-k Inv-loop μ-loop
 add-k c = search needs
 
--- src/lib.rt:23:5
 loop-less : tie.Need-loop-less Inv-loop μ-loop
 loop-less c = search needs
 
--- src/lib.rt:23:5
 loop-again : tie.Need-loop-again Inv-loop μ-loop
 loop-again c =
     (search (needs, noded-next), c .before .before .put-node .kept .0 ∙ c .before .before .before .before .before .before .before .before .before .loop .inv .1)
 
--- src/lib.rt:9:1
 same-length-2 : tie.Need-same-length-2 Inv-loop μ-loop
 same-length-2 c = search needs
 
--- src/lib.rt:9:1
 returns-2 : tie.Need-returns-2 Inv-loop μ-loop
 returns-2 c = search (needs, noded-all)
 

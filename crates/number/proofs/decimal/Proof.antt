@@ -7,19 +7,15 @@ use Rattle.number.proofs.decimal.Lts as lts
 use Rattle.number.proofs.is_plain.Reads as is-plain-reads
 use Rattle.number.proofs.value.Reads as value-reads
 
--- src/lib.rt:78:8
 is-plain-requires : tie.Need-is-plain-requires
 is-plain-requires c κs = search needs
 
--- src/lib.rt:79:9
 value-requires : tie.Need-value-requires
 value-requires c κs = search needs
 
--- src/lib.rt:79:9
 returns : tie.Need-returns
 returns c = search (needs, decimal-plain)
 
--- src/lib.rt:75:1
 returns-2 : tie.Need-returns-2
 returns-2 c = search (needs, decimal-wrong)
 

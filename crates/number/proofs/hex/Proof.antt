@@ -6,15 +6,12 @@ use Rattle.number.proofs.hex.Reads as reads
 use Rattle.number.proofs.hex.Lts as lts
 use Rattle.number.proofs.value.Reads as value-reads
 
--- src/lib.rt:89:9
 value-requires : tie.Need-value-requires
 value-requires c κs = search needs
 
--- src/lib.rt:89:9
 returns : tie.Need-returns
 returns c = search (needs, hex-value)
 
--- src/lib.rt:85:1
 returns-2 : tie.Need-returns-2
 returns-2 c = search (needs, hex-wrong)
 

@@ -14,55 +14,42 @@ Inv-loop s base acc₀ i₀ acc i = Sofar base s acc i
 abbrev μ-loop : tie.MeasureT-loop
 μ-loop s base acc₀ i₀ acc i = length s - i
 
--- src/lib.rt:44:5
 loop-holds : tie.Need-loop-holds Inv-loop μ-loop
 loop-holds c = search (needs, sofar-first)
 
--- src/lib.rt:45:23
 shared-slice-read-digit : tie.Need-shared-slice-read-digit Inv-loop μ-loop
 shared-slice-read-digit c = search needs
 
--- src/lib.rt:45:13
 digit-requires : tie.Need-digit-requires Inv-loop μ-loop
 digit-requires c κs = search needs
 
--- src/lib.rt:47:13
 returns : tie.Need-returns Inv-loop μ-loop
 returns c = search (needs, sofar-digit)
 
--- src/lib.rt:49:13
 sub-if2 : tie.Need-sub-if2 Inv-loop μ-loop
 sub-if2 c = search needs
 
--- src/lib.rt:49:12
 div-if2 : tie.Need-div-if2 Inv-loop μ-loop
 div-if2 c = search needs
 
--- src/lib.rt:50:13
 returns-2 : tie.Need-returns-2 Inv-loop μ-loop
 returns-2 c = search (needs, sofar-large)
 
--- src/lib.rt:52:15
 mul-acc : tie.Need-mul-acc Inv-loop μ-loop
 mul-acc c = search (needs, mul-next)
 
--- src/lib.rt:52:15
 add-acc : tie.Need-add-acc Inv-loop μ-loop
 add-acc c = search (needs, add-next)
 
--- src/lib.rt:53:9
 add-i : tie.Need-add-i Inv-loop μ-loop
 add-i c = search needs
 
--- src/lib.rt:44:5
 loop-less : tie.Need-loop-less Inv-loop μ-loop
 loop-less c = search needs
 
--- src/lib.rt:44:5
 loop-again : tie.Need-loop-again Inv-loop μ-loop
 loop-again c = search (needs, sofar-next)
 
--- src/lib.rt:38:1
 returns-3 : tie.Need-returns-3 Inv-loop μ-loop
 returns-3 c = search (needs, sofar-value)
 

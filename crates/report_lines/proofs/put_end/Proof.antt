@@ -7,23 +7,18 @@ use Rattle.report_lines.proofs.put_end.Lts as lts
 use Rattle.lines.proofs.field.put_number.Reads as put-number-reads
 use Rattle.lines.proofs.field.put_text.Reads as put-text-reads
 
--- src/lib.rt:26:31
 slice-aggregate-put-text : tie.Need-slice-aggregate-put-text
 slice-aggregate-put-text c = search needs
 
--- src/lib.rt:26:9
 put-text-requires : tie.Need-put-text-requires
 put-text-requires c κs = search needs
 
--- src/lib.rt:27:5
 put-number-requires : tie.Need-put-number-requires
 put-number-requires c κs = search needs
 
--- src/lib.rt:23:1
 same-length : tie.Need-same-length
 same-length c = search needs
 
--- src/lib.rt:23:1
 returns : tie.Need-returns
 returns c = search (needs, end-wrote)
 

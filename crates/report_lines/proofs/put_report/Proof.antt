@@ -8,23 +8,18 @@ use Rattle.report_lines.proofs.put_report_head.Reads as put-report-head
 use Rattle.text.proofs.write.put_byte.Reads as put-byte-reads
 use Rattle.text.proofs.write.put_signed.Reads as put-signed-reads
 
--- src/lib.rt:27:9
 put-report-head-requires : tie.Need-put-report-head-requires
 put-report-head-requires c κs = search needs
 
--- src/lib.rt:28:9
 put-signed-requires : tie.Need-put-signed-requires
 put-signed-requires c κs = search needs
 
--- src/lib.rt:29:5
 put-byte-requires : tie.Need-put-byte-requires
 put-byte-requires c κs = search needs
 
--- src/lib.rt:23:1
 same-length : tie.Need-same-length
 same-length c = search needs
 
--- src/lib.rt:23:1
 returns : tie.Need-returns
 returns c = search (needs, report-wrote)
 

@@ -7,27 +7,21 @@ use Rattle.report_lines.proofs.put_report_head.Lts as lts
 use Rattle.lines.proofs.field.put_number.Reads as put-number-reads
 use Rattle.lines.proofs.field.put_text.Reads as put-text-reads
 
--- src/lib.rt:17:31
 slice-aggregate-put-text : tie.Need-slice-aggregate-put-text
 slice-aggregate-put-text c = search needs
 
--- src/lib.rt:17:9
 put-text-requires : tie.Need-put-text-requires
 put-text-requires c κs = search needs
 
--- src/lib.rt:18:9
 put-number-requires : tie.Need-put-number-requires
 put-number-requires c κs = search needs
 
--- src/lib.rt:19:5
 put-number-requires-2 : tie.Need-put-number-requires-2
 put-number-requires-2 c κs = search needs
 
--- src/lib.rt:14:1
 same-length : tie.Need-same-length
 same-length c = search needs
 
--- src/lib.rt:14:1
 returns : tie.Need-returns
 returns c = search (needs, head-wrote)
 

@@ -5,19 +5,15 @@ use Rattle.runs.proofs.in_time.Tie as tie
 use Rattle.runs.proofs.in_time.Reads as reads
 use Rattle.runs.proofs.in_time.Lts as lts
 
--- src/lib.rt:23:9
 returns : tie.Need-returns
 returns c = search (needs, no-words)
 
--- src/lib.rt:26:38
 sub-result : tie.Need-sub-result
 sub-result c = search needs
 
--- src/lib.rt:26:9
 returns-2 : tie.Need-returns-2
 returns-2 c = search (needs, enough-steps)
 
--- src/lib.rt:19:1
 returns-3 : tie.Need-returns-3
 returns-3 c = search (needs, late-start)
 

@@ -5,23 +5,18 @@ use Rattle.runs.proofs.report_at.Tie as tie
 use Rattle.runs.proofs.report_at.Reads as reads
 use Rattle.runs.proofs.report_at.Lts as lts
 
--- src/lib.rt:35:27
 enum-known-v : tie.Need-enum-known-v
 enum-known-v c = search needs
 
--- src/lib.rt:36:9
 enum-told : tie.Need-enum-told
 enum-told c = search needs
 
--- src/lib.rt:36:9
 returns : tie.Need-returns
 returns c = search needs
 
--- src/lib.rt:39:9
 returns-2 : tie.Need-returns-2
 returns-2 c = search (needs, reports-here)
 
--- src/lib.rt:32:1
 returns-3 : tie.Need-returns-3
 returns-3 c = search needs
 

@@ -19,66 +19,51 @@ abbrev μ-loop : tie.MeasureT-loop
 μ-loop ops nums first count nodes nfirst ncount size forms bounds held₀ remaining₀ failed₀ culprits₀ s words r₀ at₀ i₀ held remaining failed culprits r at i =
     length words - i
 
--- src/lib.rt:80:5
 loop-holds : tie.Need-loop-holds Inv-loop μ-loop
 loop-holds c = search (needs, along-start)
 
--- src/lib.rt:97:13
 mul-step-fit : tie.Need-mul-step-fit Inv-loop μ-loop
 mul-step-fit c = search needs
 
--- src/lib.rt:97:13
 shared-slice-read-step-fit : tie.Need-shared-slice-read-step-fit Inv-loop μ-loop
 shared-slice-read-step-fit c = search needs
 
--- src/lib.rt:81:13
 step-fit-requires : tie.Need-step-fit-requires Inv-loop μ-loop
 step-fit-requires c κs = along-fit _ _ _ _ _ _ _ _ _ _ _ (c .before .before .before .before .before .before .loop .inv .0) (c .before .before .before .before .before .loop-test .taken)
 
--- src/lib.rt:99:25
 report-at-requires : tie.Need-report-at-requires Inv-loop μ-loop
 report-at-requires c κs = search needs
 
--- src/lib.rt:99:9
 first-of-requires : tie.Need-first-of-requires Inv-loop μ-loop
 first-of-requires c κs = search needs
 
--- src/lib.rt:100:9
 add-at : tie.Need-add-at Inv-loop μ-loop
 add-at c = omega (arith, along-below _ _ _ _ _ _ _ _ _ _ _ (c .before .before .before .before .before .before .before .before .before .before .before .before .before .before .before .before .loop .inv .0) (c .before .before .before .before .before .before .before .before .before .before .before .before .before .before .before .loop-test .taken))
 
--- src/lib.rt:101:9
 add-i : tie.Need-add-i Inv-loop μ-loop
 add-i c = omega (arith, c .before .before .before .before .before .before .before .before .before .before .before .before .before .before .before .loop-test .taken, c .before .before .before .before .before .before .before .before .before .before .before .before .before .before .before .before .before .before .before .before .before .before .before .before .before .before)
 
--- src/lib.rt:80:5
 loop-less : tie.Need-loop-less Inv-loop μ-loop
 loop-less c = search needs
 
--- src/lib.rt:80:5
 loop-again : tie.Need-loop-again Inv-loop μ-loop
 loop-again c = (
   along-next _ _ _ _ _ _ _ _ _ _ _ (c .before .before .before .before .before .before .before .before .before .before .before .before .before .before .before .before .loop .inv .0) (c .before .before .before .before .before .before .before .before .before .before .before .before .before .before .before .loop-test .taken) _ _ (c .before .before .before .before .before .before .before .before .before .step-fit .ensures) _ _ (c .before .report-at .ensures) (c .first-of .ensures),
   record { held = search needs; remaining = search needs; failed = search needs; culprits = search needs },
 )
 
--- src/lib.rt:56:1
 same-length : tie.Need-same-length Inv-loop μ-loop
 same-length c = search needs
 
--- src/lib.rt:56:1
 same-length-2 : tie.Need-same-length-2 Inv-loop μ-loop
 same-length-2 c = search needs
 
--- src/lib.rt:56:1
 same-length-3 : tie.Need-same-length-3 Inv-loop μ-loop
 same-length-3 c = search needs
 
--- src/lib.rt:56:1
 same-length-4 : tie.Need-same-length-4 Inv-loop μ-loop
 same-length-4 c = search needs
 
--- src/lib.rt:56:1
 returns : tie.Need-returns Inv-loop μ-loop
 returns c = search (needs, along-end)
 

@@ -22,59 +22,45 @@ abbrev μ-loop : tie.MeasureT-loop
 μ-loop text from ops nums nodes nfirsts refusals n held₀ remaining₀ failed₀ culprits₀ out₀ at place₀ count₀ cursor₀ held remaining failed culprits out place count cursor =
     length (stepsFrom text cursor)
 
--- src/lib.rt:160:5
 loop-holds : tie.Need-loop-holds Inv-loop μ-loop
 loop-holds c = search (needs, ran-first)
 
--- src/lib.rt:161:13
 next-step-requires : tie.Need-next-step-requires Inv-loop μ-loop
 next-step-requires c κs = search needs
 
--- src/lib.rt:162:30
 enum-known-read : tie.Need-enum-known-read Inv-loop μ-loop
 enum-known-read c = search needs
 
--- src/lib.rt:163:13
 enum-told : tie.Need-enum-told Inv-loop μ-loop
 enum-told c = search needs
 
--- src/lib.rt:163:13
 same-length : tie.Need-same-length Inv-loop μ-loop
 same-length c = search needs
 
--- src/lib.rt:163:13
 same-length-2 : tie.Need-same-length-2 Inv-loop μ-loop
 same-length-2 c = search needs
 
--- src/lib.rt:163:13
 same-length-3 : tie.Need-same-length-3 Inv-loop μ-loop
 same-length-3 c = search needs
 
--- src/lib.rt:163:13
 same-length-4 : tie.Need-same-length-4 Inv-loop μ-loop
 same-length-4 c = search needs
 
--- src/lib.rt:163:13
 same-length-5 : tie.Need-same-length-5 Inv-loop μ-loop
 same-length-5 c = search needs
 
--- src/lib.rt:163:13
 returns : tie.Need-returns Inv-loop μ-loop
 returns c = search (needs, ran-end)
 
--- src/lib.rt:165:13
 step-rules-requires : tie.Need-step-rules-requires Inv-loop μ-loop
 step-rules-requires c κs = search (needs, ran-due)
 
--- src/lib.rt:182:9
 add-total : tie.Need-add-total Inv-loop μ-loop
 add-total c = search needs
 
--- src/lib.rt:160:5
 loop-less : tie.Need-loop-less Inv-loop μ-loop
 loop-less c = search (needs, fewer)
 
--- src/lib.rt:160:5
 loop-again : tie.Need-loop-again Inv-loop μ-loop
 loop-again c = (search (needs, ran-next), omega (arith, c .before .before .before .before .before .before .before .before .before .before .step-rules .kept, c .before .before .before .before .before .before .before .before .before .before .before .before .before .before .before .before .before .before .before .before .loop .inv .1))
 

@@ -8,84 +8,64 @@ use Rattle.stepped_lines.proofs.report_rule.Lts as lts
 use Rattle.report_lines.proofs.put_report.Reads as put-report-reads
 use Rattle.stepped_lines.proofs.step_rule.Reads as step-rule-reads
 
--- src/lib.rt:74:8
 mul-if1 : tie.Need-mul-if1
 mul-if1 c = search needs
 
--- src/lib.rt:74:8
 shared-slice-read-if1 : tie.Need-shared-slice-read-if1
 shared-slice-read-if1 c = search needs
 
--- src/lib.rt:75:9
 returns : tie.Need-returns
 returns c = search (needs, turn-refused)
 
--- src/lib.rt:77:13
 mul-k : tie.Need-mul-k
 mul-k c = search needs
 
--- src/lib.rt:77:13
 shared-slice-read-k : tie.Need-shared-slice-read-k
 shared-slice-read-k c = search needs
 
--- src/lib.rt:78:9
 step-rule-requires : tie.Need-step-rule-requires
 step-rule-requires c κs = search (needs, turn-walks)
 
--- src/lib.rt:80:23
 mul-culprit : tie.Need-mul-culprit
 mul-culprit c = omega (arith, turn-low _ _ _ _ _ _ _ _ _ _ (c .before .before .before .before .before .before .before .before .before .before .before .before .before .before .before .before .before .before .before .before .before .before .before .before .before .pre) (c .before .before .before .before .before .before .before .before .before .before .before .before .before .before .if1 .left))
 
--- src/lib.rt:80:23
 slice-copy-out-culprit : tie.Need-slice-copy-out-culprit
 slice-copy-out-culprit c = omega (arith, turn-room _ _ _ _ _ _ _ _ _ _ (c .before .before .before .before .before .before .before .before .before .before .before .before .before .before .before .before .before .before .before .before .before .before .before .before .before .pre) (c .before .before .before .before .before .before .before .before .before .before .before .before .before .before .if1 .left), c .before .before .before .before .before .before .before .before .step-rule .kept)
 
--- src/lib.rt:81:13
 put-report-requires : tie.Need-put-report-requires
 put-report-requires c κs =
     search (needs, turn-culprit _ _ _ _ _ _ _ _ _ _ (c .before .before .before .before .before .before .before .before .before .before .before .before .before .before .before .before .before .before .before .before .before .before .before .before .before .before .before .pre) (c .before .before .before .before .before .before .before .before .before .before .before .before .before .before .before .before .if1 .left) _ _ (c .before .before .before .before .before .before .before .before .before .before .step-rule .ensures))
 
--- src/lib.rt:82:9
 same-length : tie.Need-same-length
 same-length c = search needs
 
--- src/lib.rt:82:9
 same-length-2 : tie.Need-same-length-2
 same-length-2 c = search needs
 
--- src/lib.rt:82:9
 same-length-3 : tie.Need-same-length-3
 same-length-3 c = search needs
 
--- src/lib.rt:82:9
 same-length-4 : tie.Need-same-length-4
 same-length-4 c = search needs
 
--- src/lib.rt:82:9
 same-length-5 : tie.Need-same-length-5
 same-length-5 c = search needs
 
--- src/lib.rt:82:9
 returns-2 : tie.Need-returns-2
 returns-2 c = search (needs, turn-broken)
 
--- src/lib.rt:54:1
 same-length-6 : tie.Need-same-length-6
 same-length-6 c = search needs
 
--- src/lib.rt:54:1
 same-length-7 : tie.Need-same-length-7
 same-length-7 c = search needs
 
--- src/lib.rt:54:1
 same-length-8 : tie.Need-same-length-8
 same-length-8 c = search needs
 
--- src/lib.rt:54:1
 same-length-9 : tie.Need-same-length-9
 same-length-9 c = search needs
 
--- src/lib.rt:54:1
 returns-3 : tie.Need-returns-3
 returns-3 c = search (needs, turn-kept)
 

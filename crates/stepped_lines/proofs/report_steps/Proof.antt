@@ -6,31 +6,24 @@ use Rattle.stepped_lines.proofs.report_steps.Reads as reads
 use Rattle.stepped_lines.proofs.report_steps.Lts as lts
 use Rattle.stepped_lines.proofs.put_reports.Reads as put-reports-reads
 
--- src/lib.rt:219:9
 slice-aggregate-put-reports : tie.Need-slice-aggregate-put-reports
 slice-aggregate-put-reports c = search needs
 
--- src/lib.rt:220:9
 slice-aggregate-put-reports-2 : tie.Need-slice-aggregate-put-reports-2
 slice-aggregate-put-reports-2 c = search needs
 
--- src/lib.rt:221:9
 slice-aggregate-put-reports-3 : tie.Need-slice-aggregate-put-reports-3
 slice-aggregate-put-reports-3 c = search needs
 
--- src/lib.rt:222:9
 slice-aggregate-put-reports-4 : tie.Need-slice-aggregate-put-reports-4
 slice-aggregate-put-reports-4 c = search needs
 
--- src/lib.rt:210:5
 put-reports-requires : tie.Need-put-reports-requires
 put-reports-requires c κs = search (needs, fresh-due)
 
--- src/lib.rt:191:1
 same-length : tie.Need-same-length
 same-length c = search needs
 
--- src/lib.rt:191:1
 returns : tie.Need-returns
 returns c = search (needs, fresh-reported)
 

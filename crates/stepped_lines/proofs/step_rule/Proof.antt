@@ -8,55 +8,42 @@ use Rattle.stepped_lines.proofs.step_rule.Reads as reads
 use Rattle.stepped_lines.proofs.step_rule.Lts as lts
 use Rattle.stepping.proofs.walk.step_node.Reads as step-node-reads
 
--- src/lib.rt:33:18
 slice-read-before : tie.Need-slice-read-before
 slice-read-before c = omega (arith, count-pos (c .before .before .before .before .before .before .before .pre .mon))
 
--- src/lib.rt:34:5
 step-node-requires : tie.Need-step-node-requires
 step-node-requires c κs = search needs
 
--- src/lib.rt:48:9
 same-length : tie.Need-same-length
 same-length c = search needs
 
--- src/lib.rt:48:9
 same-length-2 : tie.Need-same-length-2
 same-length-2 c = search needs
 
--- src/lib.rt:48:9
 same-length-3 : tie.Need-same-length-3
 same-length-3 c = search needs
 
--- src/lib.rt:48:9
 same-length-4 : tie.Need-same-length-4
 same-length-4 c = search needs
 
--- src/lib.rt:48:9
 returns : tie.Need-returns
 returns c = search (needs, stepped-before)
 
--- src/lib.rt:50:5
 slice-read-result : tie.Need-slice-read-result
 slice-read-result c = omega (arith, count-pos (c .before .before .before .before .before .before .before .before .before .before .before .before .before .before .before .before .before .before .before .before .before .pre .mon), c .before .before .before .before .before .before .before .before .before .step-node .kept)
 
--- src/lib.rt:18:1
 same-length-5 : tie.Need-same-length-5
 same-length-5 c = search needs
 
--- src/lib.rt:18:1
 same-length-6 : tie.Need-same-length-6
 same-length-6 c = search needs
 
--- src/lib.rt:18:1
 same-length-7 : tie.Need-same-length-7
 same-length-7 c = search needs
 
--- src/lib.rt:18:1
 same-length-8 : tie.Need-same-length-8
 same-length-8 c = search needs
 
--- src/lib.rt:18:1
 returns-2 : tie.Need-returns-2
 returns-2 c = search (needs, stepped-after)
 

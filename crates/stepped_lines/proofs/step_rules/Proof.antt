@@ -18,51 +18,39 @@ abbrev μ-loop : tie.MeasureT-loop
 μ-loop ops nums nodes nfirsts refusals n held₀ remaining₀ failed₀ culprits₀ s w out₀ at place₀ count₀ r₀ held remaining failed culprits out place count r =
     n - r
 
--- src/lib.rt:112:5
 loop-holds : tie.Need-loop-holds Inv-loop μ-loop
 loop-holds c = search (needs, upto-first)
 
--- src/lib.rt:113:13
 report-rule-requires : tie.Need-report-rule-requires Inv-loop μ-loop
 report-rule-requires c κs = search (needs, upto-due)
 
--- src/lib.rt:131:9
 add-count : tie.Need-add-count Inv-loop μ-loop
 add-count c = omega (arith, c .before .before .before .before .before .before .before .before .before .before .report-rule .ensures .few, c .before .before .before .before .before .before .before .before .before .before .before .before .before .before .before .before .before .loop .inv .0 .few, c .before .before .before .before .before .before .before .before .before .before .before .before .before .before .before .before .before .loop .inv .0 .high, c .before .before .before .before .before .before .before .before .before .before .before .before .before .before .before .before .before .before .before .before .before .before .before .before .before .before .before .pre .rows .few)
 
--- src/lib.rt:132:9
 add-r : tie.Need-add-r Inv-loop μ-loop
 add-r c = omega (arith, c .before .before .before .before .before .before .before .before .before .before .before .before .before .before .before .before .before .loop .inv .0 .high, c .before .before .before .before .before .before .before .before .before .before .before .before .before .before .before .before .before .before .before .before .before .before .before .before .before .before .before .pre .rows .few)
 
--- src/lib.rt:112:5
 loop-less : tie.Need-loop-less Inv-loop μ-loop
 loop-less c = search needs
 
--- src/lib.rt:112:5
 loop-again : tie.Need-loop-again Inv-loop μ-loop
 loop-again c = (search (needs, upto-next), omega (arith, c .before .before .before .before .before .before .before .before .before .before .report-rule .kept, c .before .before .before .before .before .before .before .before .before .before .before .before .before .before .before .before .before .loop .inv .1))
 
--- src/lib.rt:90:1
 same-length : tie.Need-same-length Inv-loop μ-loop
 same-length c = search needs
 
--- src/lib.rt:90:1
 same-length-2 : tie.Need-same-length-2 Inv-loop μ-loop
 same-length-2 c = search needs
 
--- src/lib.rt:90:1
 same-length-3 : tie.Need-same-length-3 Inv-loop μ-loop
 same-length-3 c = search needs
 
--- src/lib.rt:90:1
 same-length-4 : tie.Need-same-length-4 Inv-loop μ-loop
 same-length-4 c = search needs
 
--- src/lib.rt:90:1
 same-length-5 : tie.Need-same-length-5 Inv-loop μ-loop
 same-length-5 c = search needs
 
--- src/lib.rt:90:1
 returns : tie.Need-returns Inv-loop μ-loop
 returns c = search (needs, upto-all)
 

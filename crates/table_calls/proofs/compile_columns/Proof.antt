@@ -6,31 +6,24 @@ use Rattle.table_calls.proofs.compile_columns.Reads as reads
 use Rattle.table_calls.proofs.compile_columns.Lts as lts
 use Rattle.compiler.proofs.compile_formula.Reads as compile-formula-reads
 
--- src/lib.rt:21:21
 array-share-prefix-ops : tie.Need-array-share-prefix-ops
 array-share-prefix-ops c = search needs
 
--- src/lib.rt:21:21
 slice-aggregate-compile-formula : tie.Need-slice-aggregate-compile-formula
 slice-aggregate-compile-formula c = search (needs, front-length)
 
--- src/lib.rt:21:32
 array-share-prefix-nums : tie.Need-array-share-prefix-nums
 array-share-prefix-nums c = search needs
 
--- src/lib.rt:21:32
 slice-aggregate-compile-formula-2 : tie.Need-slice-aggregate-compile-formula-2
 slice-aggregate-compile-formula-2 c = search (needs, front-length)
 
--- src/lib.rt:21:5
 compile-formula-requires : tie.Need-compile-formula-requires
 compile-formula-requires c κs = search needs
 
--- src/lib.rt:14:1
 same-length : tie.Need-same-length
 same-length c = search needs
 
--- src/lib.rt:14:1
 returns : tie.Need-returns
 returns c = search needs
 

@@ -6,35 +6,27 @@ use Rattle.table_calls.proofs.split_columns.Reads as reads
 use Rattle.table_calls.proofs.split_columns.Lts as lts
 use Rattle.split.proofs.parts.split.Reads as split-reads
 
--- src/lib.rt:55:11
 array-share-prefix-ops : tie.Need-array-share-prefix-ops
 array-share-prefix-ops c = search needs
 
--- src/lib.rt:55:11
 slice-aggregate-split : tie.Need-slice-aggregate-split
 slice-aggregate-split c = search (needs, front-length)
 
--- src/lib.rt:55:22
 array-share-prefix-nums : tie.Need-array-share-prefix-nums
 array-share-prefix-nums c = search needs
 
--- src/lib.rt:55:22
 slice-aggregate-split-2 : tie.Need-slice-aggregate-split-2
 slice-aggregate-split-2 c = search (needs, front-length)
 
--- src/lib.rt:55:5
 split-requires : tie.Need-split-requires
 split-requires c κs = search needs
 
--- src/lib.rt:41:1
 same-length : tie.Need-same-length
 same-length c = search needs
 
--- src/lib.rt:41:1
 same-length-2 : tie.Need-same-length-2
 same-length-2 c = search needs
 
--- src/lib.rt:41:1
 returns : tie.Need-returns
 returns c = search needs
 

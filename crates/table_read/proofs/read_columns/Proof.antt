@@ -7,47 +7,36 @@ use Rattle.table_read.proofs.read_columns.Lts as lts
 use Rattle.reader.proofs.read.read_book.Reads as read-book-reads
 use Rattle.table_read.proofs.node_count.Reads as node-count-reads
 
--- src/lib.rt:50:9
 returns : tie.Need-returns
 returns c = search (needs, fills-short)
 
--- src/lib.rt:59:9
 slice-aggregate-read-book : tie.Need-slice-aggregate-read-book
 slice-aggregate-read-book c = search needs
 
--- src/lib.rt:60:9
 slice-aggregate-read-book-2 : tie.Need-slice-aggregate-read-book-2
 slice-aggregate-read-book-2 c = search needs
 
--- src/lib.rt:52:9
 read-book-requires : tie.Need-read-book-requires
 read-book-requires c κs = search needs
 
--- src/lib.rt:63:16
 node-count-requires : tie.Need-node-count-requires
 node-count-requires c κs = search needs
 
--- src/lib.rt:30:1
 same-length : tie.Need-same-length
 same-length c = search needs
 
--- src/lib.rt:30:1
 same-length-2 : tie.Need-same-length-2
 same-length-2 c = search needs
 
--- src/lib.rt:30:1
 same-length-3 : tie.Need-same-length-3
 same-length-3 c = search needs
 
--- src/lib.rt:30:1
 same-length-4 : tie.Need-same-length-4
 same-length-4 c = search needs
 
--- src/lib.rt:30:1
 same-length-5 : tie.Need-same-length-5
 same-length-5 c = search needs
 
--- src/lib.rt:30:1
 returns-2 : tie.Need-returns-2
 returns-2 c = search (needs, fills-read)
 

@@ -7,43 +7,33 @@ use Rattle.trips.proofs.show_culprit.Lts as lts
 use Rattle.trips.proofs.put.Reads as put-reads
 use Rattle.trips.proofs.show.Reads as show-reads
 
--- src/main.rt:32:17
 slice-aggregate-put : tie.Need-slice-aggregate-put
 slice-aggregate-put c = search needs
 
--- src/main.rt:32:13
 put-requires : tie.Need-put-requires
 put-requires c κs = search needs
 
--- src/main.rt:33:13
 returns : tie.Need-returns
 returns c = search needs
 
--- src/main.rt:35:13
 slice-aggregate-put-2 : tie.Need-slice-aggregate-put-2
 slice-aggregate-put-2 c = search needs
 
--- src/main.rt:35:9
 put-requires-2 : tie.Need-put-requires-2
 put-requires-2 c κs = search needs
 
--- src/main.rt:36:9
 returns-2 : tie.Need-returns-2
 returns-2 c = search needs
 
--- src/main.rt:38:10
 slice-aggregate-show : tie.Need-slice-aggregate-show
 slice-aggregate-show c = search needs
 
--- src/main.rt:38:24
 cast-show : tie.Need-cast-show
 cast-show c = from-zero (c .before .before .args .c) (c .before .before .fits .c) (c .before .if1 .left)
 
--- src/main.rt:38:5
 show-requires : tie.Need-show-requires
 show-requires c κs = search needs
 
--- src/main.rt:29:1
 returns-3 : tie.Need-returns-3
 returns-3 c = search needs
 

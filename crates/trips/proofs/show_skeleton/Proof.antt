@@ -12,27 +12,21 @@ Inv-loop ops nums skeleton n k₀ k = Unit {0}
 abbrev μ-loop : tie.MeasureT-loop
 μ-loop ops nums skeleton n k₀ k = n - k
 
--- src/main.rt:240:5
 loop-holds : tie.Need-loop-holds Inv-loop μ-loop
 loop-holds c = search needs
 
--- src/main.rt:241:9
 show-entry-at-requires : tie.Need-show-entry-at-requires Inv-loop μ-loop
 show-entry-at-requires c κs = search needs
 
--- src/main.rt:242:9
 add-k : tie.Need-add-k Inv-loop μ-loop
 add-k c = search needs
 
--- src/main.rt:240:5
 loop-less : tie.Need-loop-less Inv-loop μ-loop
 loop-less c = search needs
 
--- src/main.rt:240:5
 loop-again : tie.Need-loop-again Inv-loop μ-loop
 loop-again c = search needs
 
--- src/main.rt:238:1
 returns : tie.Need-returns Inv-loop μ-loop
 returns c = search needs
 

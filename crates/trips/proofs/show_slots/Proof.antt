@@ -12,27 +12,21 @@ Inv-loop ops nums first count nodes nfirst ncount n j₀ j = Unit {0}
 abbrev μ-loop : tie.MeasureT-loop
 μ-loop ops nums first count nodes nfirst ncount n j₀ j = n - j
 
--- src/main.rt:221:5
 loop-holds : tie.Need-loop-holds Inv-loop μ-loop
 loop-holds c = search needs
 
--- src/main.rt:222:9
 show-slot-requires : tie.Need-show-slot-requires Inv-loop μ-loop
 show-slot-requires c κs = search needs
 
--- src/main.rt:223:9
 add-j : tie.Need-add-j Inv-loop μ-loop
 add-j c = search needs
 
--- src/main.rt:221:5
 loop-less : tie.Need-loop-less Inv-loop μ-loop
 loop-less c = search needs
 
--- src/main.rt:221:5
 loop-again : tie.Need-loop-again Inv-loop μ-loop
 loop-again c = search needs
 
--- src/main.rt:210:1
 returns : tie.Need-returns Inv-loop μ-loop
 returns c = search needs
 

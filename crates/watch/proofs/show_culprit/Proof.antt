@@ -7,31 +7,24 @@ use Rattle.watch.proofs.show_culprit.Lts as lts
 use Rattle.watch.proofs.put.Reads as put-reads
 use Rattle.watch.proofs.show.Reads as show-reads
 
--- src/main.rt:26:13
 slice-aggregate-put : tie.Need-slice-aggregate-put
 slice-aggregate-put c = search needs
 
--- src/main.rt:26:9
 put-requires : tie.Need-put-requires
 put-requires c κs = search needs
 
--- src/main.rt:27:9
 returns : tie.Need-returns
 returns c = search needs
 
--- src/main.rt:29:10
 slice-aggregate-show : tie.Need-slice-aggregate-show
 slice-aggregate-show c = search needs
 
--- src/main.rt:29:16
 cast-show : tie.Need-cast-show
 cast-show c = signed-cast _ (c .before .before .fits .c) (c .before .if1 .left)
 
--- src/main.rt:29:5
 show-requires : tie.Need-show-requires
 show-requires c κs = search needs
 
--- src/main.rt:24:1
 returns-2 : tie.Need-returns-2
 returns-2 c = search needs
 

@@ -13,63 +13,48 @@ Inv-loop rules table kinds firsts counts r₀ r = r ≤ 64
 abbrev μ-loop : tie.MeasureT-loop
 μ-loop rules table kinds firsts counts r₀ r = 64 - r
 
--- src/main.rt:77:5
 loop-holds : tie.Need-loop-holds Inv-loop μ-loop
 loop-holds c = search needs
 
--- src/main.rt:79:13
 returns : tie.Need-returns Inv-loop μ-loop
 returns c = search needs
 
--- src/main.rt:83:26
 array-read-assumption : tie.Need-array-read-assumption Inv-loop μ-loop
 array-read-assumption c = search needs
 
--- src/main.rt:86:13
 mul-split-over : tie.Need-mul-split-over Inv-loop μ-loop
 mul-split-over c = search needs
 
--- src/main.rt:86:13
 array-read-split-over : tie.Need-array-read-split-over Inv-loop μ-loop
 array-read-split-over c = search needs
 
--- src/main.rt:87:13
 mul-split-over-2 : tie.Need-mul-split-over-2 Inv-loop μ-loop
 mul-split-over-2 c = search needs
 
--- src/main.rt:87:13
 array-read-split-over-2 : tie.Need-array-read-split-over-2 Inv-loop μ-loop
 array-read-split-over-2 c = search needs
 
--- src/main.rt:89:13
 slice-aggregate-split-over : tie.Need-slice-aggregate-split-over Inv-loop μ-loop
 slice-aggregate-split-over c = search needs
 
--- src/main.rt:90:13
 slice-aggregate-split-over-2 : tie.Need-slice-aggregate-split-over-2 Inv-loop μ-loop
 slice-aggregate-split-over-2 c = search needs
 
--- src/main.rt:84:13
 split-over-requires : tie.Need-split-over-requires Inv-loop μ-loop
 split-over-requires c κs = search needs
 
--- src/main.rt:92:9
 show-split-requires : tie.Need-show-split-requires Inv-loop μ-loop
 show-split-requires c κs = search needs
 
--- src/main.rt:77:9
 add-r : tie.Need-add-r Inv-loop μ-loop
 add-r c = search needs
 
--- src/main.rt:77:5
 loop-less : tie.Need-loop-less Inv-loop μ-loop
 loop-less c = search needs
 
--- src/main.rt:77:5
 loop-again : tie.Need-loop-again Inv-loop μ-loop
 loop-again c = search needs
 
--- src/main.rt:70:1
 returns-2 : tie.Need-returns-2 Inv-loop μ-loop
 returns-2 c = search needs
 

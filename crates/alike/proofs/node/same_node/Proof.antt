@@ -7,137 +7,105 @@ use Rattle.alike.proofs.node.same_node.Lts as lts
 use Rattle.alike.proofs.node.same_range.Reads as same-range-reads
 use Rattle.alike.proofs.text.same_signal.Reads as same-signal-reads
 
--- src/node.rt:56:37
 enum-known-m : tie.Need-enum-known-m
 enum-known-m c = search needs
 
--- src/node.rt:57:45
 enum-known-n : tie.Need-enum-known-n
 enum-known-n c = search needs
 
--- src/node.rt:58:17
 returns : tie.Need-returns
 returns c = search (needs, not-range)
 
--- src/node.rt:60:16
 same-range-requires : tie.Need-same-range-requires
 same-range-requires c κs = search needs
 
--- src/node.rt:61:17
 same-signal-requires : tie.Need-same-signal-requires
 same-signal-requires c κs = search (needs, range-meant)
 
--- src/node.rt:61:17
 returns-2 : tie.Need-returns-2
 returns-2 c = search (needs, range-same)
 
--- src/node.rt:63:13
 returns-3 : tie.Need-returns-3
 returns-3 c = search (needs, range-differs)
 
--- src/node.rt:66:25
 enum-known-m-2 : tie.Need-enum-known-m-2
 enum-known-m-2 c = search needs
 
--- src/node.rt:71:29
 enum-known-n-2 : tie.Need-enum-known-n-2
 enum-known-n-2 c = search needs
 
--- src/node.rt:75:17
 returns-4 : tie.Need-returns-4
 returns-4 c = search (needs, not-delayed)
 
--- src/node.rt:77:16
 same-range-requires-2 : tie.Need-same-range-requires-2
 same-range-requires-2 c κs = search needs
 
--- src/node.rt:78:20
 same-signal-requires-2 : tie.Need-same-signal-requires-2
 same-signal-requires-2 c κs = search (needs, delayed-meant)
 
--- src/node.rt:79:21
 same-signal-requires-3 : tie.Need-same-signal-requires-3
 same-signal-requires-3 c κs = search (needs, delayed-meant-second)
 
--- src/node.rt:79:21
 returns-5 : tie.Need-returns-5
 returns-5 c = search (needs, delayed-same)
 
--- src/node.rt:81:17
 returns-6 : tie.Need-returns-6
 returns-6 c = search (needs, delayed-first-differs)
 
--- src/node.rt:83:13
 returns-7 : tie.Need-returns-7
 returns-7 c = search (needs, delayed-differs)
 
--- src/node.rt:86:20
 enum-known-m-3 : tie.Need-enum-known-m-3
 enum-known-m-3 c = search needs
 
--- src/node.rt:92:24
 enum-known-n-3 : tie.Need-enum-known-n-3
 enum-known-n-3 c = search needs
 
--- src/node.rt:97:17
 returns-8 : tie.Need-returns-8
 returns-8 c = search (needs, not-owed)
 
--- src/node.rt:100:17
 returns-9 : tie.Need-returns-9
 returns-9 c = search (needs, bounds-differ)
 
--- src/node.rt:102:16
 same-range-requires-3 : tie.Need-same-range-requires-3
 same-range-requires-3 c κs = search needs
 
--- src/node.rt:103:20
 same-signal-requires-4 : tie.Need-same-signal-requires-4
 same-signal-requires-4 c κs = search (needs, owed-meant)
 
--- src/node.rt:104:21
 same-signal-requires-5 : tie.Need-same-signal-requires-5
 same-signal-requires-5 c κs = search (needs, owed-meant-second)
 
--- src/node.rt:104:21
 returns-10 : tie.Need-returns-10
 returns-10 c = search (needs, owed-same)
 
--- src/node.rt:106:17
 returns-11 : tie.Need-returns-11
 returns-11 c = search (needs, owed-first-differs)
 
--- src/node.rt:108:13
 returns-12 : tie.Need-returns-12
 returns-12 c = search (needs, owed-differs)
 
--- src/node.rt:111:17
 enum-told : tie.Need-enum-told
 enum-told c = search needs
 
 enum-told-2 : tie.Need-enum-told-2
 enum-told-2 c = search needs
 
--- src/node.rt:112:17
 returns-13 : tie.Need-returns-13
 returns-13 c = search (needs, not-and)
 
--- src/node.rt:114:13
 returns-14 : tie.Need-returns-14
 returns-14 c = search (needs, and-same)
 
--- src/node.rt:117:17
 enum-told-3 : tie.Need-enum-told-3
 enum-told-3 c = search needs
 
 enum-told-4 : tie.Need-enum-told-4
 enum-told-4 c = search needs
 
--- src/node.rt:118:17
 returns-15 : tie.Need-returns-15
 returns-15 c = search (needs, not-or)
 
--- src/node.rt:120:13
 returns-16 : tie.Need-returns-16
 returns-16 c = search (needs, or-same)
 

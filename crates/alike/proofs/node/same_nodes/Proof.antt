@@ -14,43 +14,33 @@ Inv-loop ops nums nodes n i j k₀ k = Agreed ops nums nodes n i j k
 abbrev μ-loop : tie.MeasureT-loop
 μ-loop ops nums nodes n i j k₀ k = n - k
 
--- src/node.rt:146:9
 returns : tie.Need-returns Inv-loop μ-loop
 returns c = search (needs, counts-differ)
 
--- src/node.rt:151:5
 loop-holds : tie.Need-loop-holds Inv-loop μ-loop
 loop-holds c = search (needs, agreed-none)
 
--- src/node.rt:152:39
 add-same-row : tie.Need-add-same-row Inv-loop μ-loop
 add-same-row c = omega (arith, row-in _ _ _ (c .before .before .before .before .before .before .before .args .a) (c .before .before .before .before .before .before .before .pre .0) (c .before .loop .k) (search needs))
 
--- src/node.rt:152:46
 add-same-row-2 : tie.Need-add-same-row-2 Inv-loop μ-loop
 add-same-row-2 c = omega (arith, row-in _ _ _ (c .before .before .before .before .before .before .before .args .b) (c .before .before .before .before .before .before .before .pre .1) (c .before .loop .k) (search needs))
 
--- src/node.rt:152:12
 same-row-requires : tie.Need-same-row-requires Inv-loop μ-loop
 same-row-requires c κs = search (needs, row-in, shown-row, row-in-second, shown-row-second)
 
--- src/node.rt:153:13
 add-k : tie.Need-add-k Inv-loop μ-loop
 add-k c = search needs
 
--- src/node.rt:151:5
 loop-less : tie.Need-loop-less Inv-loop μ-loop
 loop-less c = search needs
 
--- src/node.rt:151:5
 loop-again : tie.Need-loop-again Inv-loop μ-loop
 loop-again c = search (needs, agreed-more)
 
--- src/node.rt:155:13
 returns-2 : tie.Need-returns-2 Inv-loop μ-loop
 returns-2 c = search (needs, row-differs)
 
--- src/node.rt:140:1
 returns-3 : tie.Need-returns-3 Inv-loop μ-loop
 returns-3 c = search (needs, rows-agree)
 

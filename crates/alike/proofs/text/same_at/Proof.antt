@@ -7,43 +7,33 @@ use Rattle.alike.proofs.text.same_at.Lts as lts
 use Rattle.alike.proofs.text.same_text.Reads as same-text-reads
 use Rattle.formula.proofs.signal.pure_at.Reads as pure-at-reads
 
--- src/text.rt:121:25
 pure-at-requires : tie.Need-pure-at-requires
 pure-at-requires c κs = search (needs, placed-spelt)
 
--- src/text.rt:121:20
 enum-known-e : tie.Need-enum-known-e
 enum-known-e c = search needs
 
--- src/text.rt:122:9
 enum-told : tie.Need-enum-told
 enum-told c = search needs
 
--- src/text.rt:122:9
 returns : tie.Need-returns
 returns c = search (needs, first-stuck)
 
--- src/text.rt:124:25
 pure-at-requires-2 : tie.Need-pure-at-requires-2
 pure-at-requires-2 c κs = search (needs, placed-spelt)
 
--- src/text.rt:124:20
 enum-known-f : tie.Need-enum-known-f
 enum-known-f c = search needs
 
--- src/text.rt:125:9
 enum-told-2 : tie.Need-enum-told-2
 enum-told-2 c = search needs
 
--- src/text.rt:125:9
 returns-2 : tie.Need-returns-2
 returns-2 c = search (needs, second-stuck)
 
--- src/text.rt:129:5
 same-text-requires : tie.Need-same-text-requires
 same-text-requires c κs = search (needs, text-in-ops, text-in-nums)
 
--- src/text.rt:117:1
 returns-3 : tie.Need-returns-3
 returns-3 c = search (needs, both-texts)
 

@@ -5,43 +5,33 @@ use Rattle.alike.proofs.text.same_sign.Tie as tie
 use Rattle.alike.proofs.text.same_sign.Reads as reads
 use Rattle.alike.proofs.text.same_sign.Lts as lts
 
--- src/text.rt:73:20
 enum-known-a : tie.Need-enum-known-a
 enum-known-a c = search needs
 
--- src/text.rt:74:28
 enum-known-b : tie.Need-enum-known-b
 enum-known-b c = search needs
 
--- src/text.rt:75:17
 enum-told : tie.Need-enum-told
 enum-told c = search needs
 
--- src/text.rt:75:17
 returns : tie.Need-returns
 returns c = search (needs, atom-word)
 
--- src/text.rt:77:13
 returns-2 : tie.Need-returns-2
 returns-2 c = search (needs, both-atoms)
 
--- src/text.rt:79:20
 enum-known-a-2 : tie.Need-enum-known-a-2
 enum-known-a-2 c = search needs
 
--- src/text.rt:80:28
 enum-known-b-2 : tie.Need-enum-known-b-2
 enum-known-b-2 c = search needs
 
--- src/text.rt:81:17
 enum-told-2 : tie.Need-enum-told-2
 enum-told-2 c = search needs
 
--- src/text.rt:81:17
 returns-3 : tie.Need-returns-3
 returns-3 c = search (needs, word-atom)
 
--- src/text.rt:83:13
 returns-4 : tie.Need-returns-4
 returns-4 c = search (needs, both-words)
 

@@ -6,46 +6,36 @@ use Rattle.alike.proofs.text.same_signal.Reads as reads
 use Rattle.alike.proofs.text.same_signal.Lts as lts
 use Rattle.alike.proofs.text.same_at.Reads as same-at-reads
 
--- src/text.rt:139:17
 enum-told : tie.Need-enum-told
 enum-told c = search needs
 
 enum-told-2 : tie.Need-enum-told-2
 enum-told-2 c = search needs
 
--- src/text.rt:140:17
 enum-told-3 : tie.Need-enum-told-3
 enum-told-3 c = search needs
 
--- src/text.rt:140:17
 returns : tie.Need-returns
 returns c = search (needs, signals-first)
 
--- src/text.rt:142:13
 returns-2 : tie.Need-returns-2
 returns-2 c = search (needs, signals-true)
 
--- src/text.rt:144:24
 enum-known-d : tie.Need-enum-known-d
 enum-known-d c = search needs
 
--- src/text.rt:145:32
 enum-known-e : tie.Need-enum-known-e
 enum-known-e c = search needs
 
--- src/text.rt:146:17
 enum-told-4 : tie.Need-enum-told-4
 enum-told-4 c = search needs
 
--- src/text.rt:146:17
 returns-3 : tie.Need-returns-3
 returns-3 c = search (needs, signals-second)
 
--- src/text.rt:148:13
 same-at-requires : tie.Need-same-at-requires
 same-at-requires c κs = search (needs, meant-at)
 
--- src/text.rt:148:13
 returns-4 : tie.Need-returns-4
 returns-4 c = search (needs, signals-at)
 

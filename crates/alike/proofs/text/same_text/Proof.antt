@@ -18,66 +18,51 @@ Inv-loop ops nums m n c₀ d₀ c d =
 abbrev μ-loop : tie.MeasureT-loop
 μ-loop ops nums m n c₀ d₀ c d = length (rest ops nums c m)
 
--- src/text.rt:95:5
 loop-holds : tie.Need-loop-holds Inv-loop μ-loop
 loop-holds c = search (needs, text-start)
 
--- src/text.rt:96:13
 sign-at-requires : tie.Need-sign-at-requires Inv-loop μ-loop
 sign-at-requires c κs = search needs
 
--- src/text.rt:97:13
 sign-at-requires-2 : tie.Need-sign-at-requires-2 Inv-loop μ-loop
 sign-at-requires-2 c κs = search needs
 
--- src/text.rt:98:24
 enum-known-x : tie.Need-enum-known-x Inv-loop μ-loop
 enum-known-x c = search needs
 
--- src/text.rt:99:17
 enum-told : tie.Need-enum-told Inv-loop μ-loop
 enum-told c = search needs
 
 enum-told-2 : tie.Need-enum-told-2 Inv-loop μ-loop
 enum-told-2 c = search needs
 
--- src/text.rt:100:17
 enum-told-3 : tie.Need-enum-told-3 Inv-loop μ-loop
 enum-told-3 c = search needs
 
--- src/text.rt:100:17
 returns : tie.Need-returns Inv-loop μ-loop
 returns c = search (needs, both-end)
 
--- src/text.rt:102:13
 returns-2 : tie.Need-returns-2 Inv-loop μ-loop
 returns-2 c = search (needs, first-end)
 
--- src/text.rt:104:24
 enum-known-y : tie.Need-enum-known-y Inv-loop μ-loop
 enum-known-y c = search needs
 
--- src/text.rt:105:13
 enum-told-4 : tie.Need-enum-told-4 Inv-loop μ-loop
 enum-told-4 c = search needs
 
--- src/text.rt:105:13
 returns-3 : tie.Need-returns-3 Inv-loop μ-loop
 returns-3 c = search (needs, second-end)
 
--- src/text.rt:107:12
 same-sign-requires : tie.Need-same-sign-requires Inv-loop μ-loop
 same-sign-requires c κs = search needs
 
--- src/text.rt:95:5
 loop-less : tie.Need-loop-less Inv-loop μ-loop
 loop-less c = search (needs, text-less)
 
--- src/text.rt:95:5
 loop-again : tie.Need-loop-again Inv-loop μ-loop
 loop-again c = search (needs, text-more)
 
--- src/text.rt:111:13
 returns-4 : tie.Need-returns-4 Inv-loop μ-loop
 returns-4 c = search (needs, text-differs)
 

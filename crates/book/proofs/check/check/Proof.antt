@@ -7,23 +7,18 @@ use Rattle.book.proofs.check.check.Lts as lts
 use Rattle.book.proofs.check.check_lines.Reads as check-lines-reads
 use Rattle.book.proofs.check.is_ended.Reads as is-ended-reads
 
--- src/check.rt:78:9
 returns : tie.Need-returns
 returns c = search (needs, check-long)
 
--- src/check.rt:80:8
 is-ended-requires : tie.Need-is-ended-requires
 is-ended-requires c κs = search needs
 
--- src/check.rt:81:9
 check-lines-requires : tie.Need-check-lines-requires
 check-lines-requires c κs = search (needs, check-lined)
 
--- src/check.rt:81:9
 returns-2 : tie.Need-returns-2
 returns-2 c = search (needs, check-ended)
 
--- src/check.rt:74:1
 returns-3 : tie.Need-returns-3
 returns-3 c = search (needs, check-unended)
 

@@ -19,75 +19,57 @@ Inv-loop text s₀ at₀ line₀ s at line = Run text s at line
 abbrev μ-loop : tie.MeasureT-loop
 μ-loop text s₀ at₀ line₀ s at line = length text - at
 
--- src/check.rt:34:9
 start-requires : tie.Need-start-requires Inv-loop μ-loop
 start-requires c κs = search needs
 
--- src/check.rt:37:5
 loop-holds : tie.Need-loop-holds Inv-loop μ-loop
 loop-holds c = search (needs, run-first)
 
--- src/check.rt:38:13
 past-requires : tie.Need-past-requires Inv-loop μ-loop
 past-requires c κs = search needs
 
--- src/check.rt:39:13
 find-requires : tie.Need-find-requires Inv-loop μ-loop
 find-requires c κs = search needs
 
--- src/check.rt:40:39
 upto-requires : tie.Need-upto-requires Inv-loop μ-loop
 upto-requires c κs = search (needs, run-found)
 
--- src/check.rt:40:29
 read-line-requires : tie.Need-read-line-requires Inv-loop μ-loop
 read-line-requires c κs = search needs
 
--- src/check.rt:40:55
 add-take : tie.Need-add-take Inv-loop μ-loop
 add-take c = search (needs, run-add)
 
--- src/check.rt:40:13
 take-requires : tie.Need-take-requires Inv-loop μ-loop
 take-requires c κs = search (needs, run-room, run-small)
 
--- src/check.rt:41:20
 add-here : tie.Need-add-here Inv-loop μ-loop
 add-here c = search (needs, run-line)
 
--- src/check.rt:43:27
 enum-known-taken : tie.Need-enum-known-taken Inv-loop μ-loop
 enum-known-taken c = search needs
 
--- src/check.rt:43:38
 returns : tie.Need-returns Inv-loop μ-loop
 returns c = search (needs, turn-fault)
 
--- src/check.rt:44:25
 enum-known-taken-2 : tie.Need-enum-known-taken-2 Inv-loop μ-loop
 enum-known-taken-2 c = search needs
 
--- src/check.rt:46:23
 add-at : tie.Need-add-at Inv-loop μ-loop
 add-at c = search (needs, run-add)
 
--- src/check.rt:46:17
 add-at-2 : tie.Need-add-at-2 Inv-loop μ-loop
 add-at-2 c = search (needs, run-at)
 
--- src/check.rt:37:5
 loop-less : tie.Need-loop-less Inv-loop μ-loop
 loop-less c = search (needs, run-falls)
 
--- src/check.rt:37:5
 loop-again : tie.Need-loop-again Inv-loop μ-loop
 loop-again c = search (needs, turn-next)
 
--- src/check.rt:52:9
 returns-2 : tie.Need-returns-2 Inv-loop μ-loop
 returns-2 c = search (needs, run-unfinished)
 
--- src/check.rt:30:1
 returns-3 : tie.Need-returns-3 Inv-loop μ-loop
 returns-3 c = search (needs, run-done)
 

@@ -5,23 +5,18 @@ use Rattle.book.proofs.check.is_ended.Tie as tie
 use Rattle.book.proofs.check.is_ended.Reads as reads
 use Rattle.book.proofs.check.is_ended.Lts as lts
 
--- src/check.rt:65:9
 returns : tie.Need-returns
 returns c = search (needs, ended-empty)
 
--- src/check.rt:67:13
 sub-if2 : tie.Need-sub-if2
 sub-if2 c = search needs
 
--- src/check.rt:67:8
 shared-slice-read-if2 : tie.Need-shared-slice-read-if2
 shared-slice-read-if2 c = search needs
 
--- src/check.rt:68:9
 returns-2 : tie.Need-returns-2
 returns-2 c = search (needs, ended-lf)
 
--- src/check.rt:61:1
 returns-3 : tie.Need-returns-3
 returns-3 c = search (needs, unended)
 

@@ -11,31 +11,24 @@ Inv-loop depth bits d₀ b₀ d b = Climbing depth bits d b
 abbrev μ-loop : tie.MeasureT-loop
 μ-loop depth bits d₀ b₀ d b = b
 
--- src/due.rt:18:9
 returns : tie.Need-returns Inv-loop μ-loop
 returns c = search (needs, climb-none)
 
--- src/due.rt:22:5
 loop-holds : tie.Need-loop-holds Inv-loop μ-loop
 loop-holds c = search (needs, climb-first)
 
--- src/due.rt:23:9
 sub-d : tie.Need-sub-d Inv-loop μ-loop
 sub-d c = search (needs, climb-deep)
 
--- src/due.rt:22:5
 loop-less : tie.Need-loop-less Inv-loop μ-loop
 loop-less c = search (needs, climb-falls)
 
--- src/due.rt:22:5
 loop-again : tie.Need-loop-again Inv-loop μ-loop
 loop-again c = search (needs, climb-next)
 
--- src/due.rt:26:27
 sub-t8 : tie.Need-sub-t8 Inv-loop μ-loop
 sub-t8 c = search needs
 
--- src/due.rt:13:1
 returns-2 : tie.Need-returns-2 Inv-loop μ-loop
 returns-2 c = search (needs, climb-end)
 

@@ -6,39 +6,30 @@ use Rattle.book.proofs.due.operands.Reads as reads
 use Rattle.book.proofs.due.operands.Lts as lts
 use Rattle.book.proofs.due.climb.Reads as climb-reads
 
--- src/due.rt:35:9
 climb-requires : tie.Need-climb-requires
 climb-requires c κs = search needs
 
--- src/due.rt:35:9
 returns : tie.Need-returns
 returns c = search (needs, due-leaf)
 
--- src/due.rt:39:20
 add-t5 : tie.Need-add-t5
 add-t5 c = search needs
 
--- src/due.rt:40:19
 mul-t6 : tie.Need-mul-t6
 mul-t6 c = search (needs, fits-one)
 
--- src/due.rt:38:9
 returns-2 : tie.Need-returns-2
 returns-2 c = search (needs, due-one)
 
--- src/due.rt:44:16
 add-t7 : tie.Need-add-t7
 add-t7 c = search needs
 
--- src/due.rt:45:15
 mul-t8 : tie.Need-mul-t8
 mul-t8 c = search (needs, fits-one)
 
--- src/due.rt:45:15
 add-t9 : tie.Need-add-t9
 add-t9 c = search (needs, fits-two)
 
--- src/due.rt:30:1
 returns-3 : tie.Need-returns-3
 returns-3 c = search (needs, due-two)
 

@@ -5,7 +5,6 @@ use Rattle.book.proofs.state.start.Tie as tie
 use Rattle.book.proofs.state.start.Reads as reads
 use Rattle.book.proofs.state.start.Lts as lts
 
--- src/state.rt:25:1
 returns : tie.Need-returns
 returns c = search (needs, starts)
 

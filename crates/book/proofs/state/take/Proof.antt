@@ -11,83 +11,63 @@ use Rattle.book.proofs.state.take_wrong_node.Reads as take-wrong-node-r
 use Rattle.book.proofs.state.take_wrong_rule.Reads as take-wrong-rule-reads
 use Rattle.book.proofs.state.take_wrong_step.Reads as take-wrong-step-reads
 
--- src/state.rt:147:22
 enum-told : tie.Need-enum-told
 enum-told c = search needs
 
--- src/state.rt:148:53
 enum-told-2 : tie.Need-enum-told-2
 enum-told-2 c = search needs
 
--- src/state.rt:148:53
 take-rule-requires : tie.Need-take-rule-requires
 take-rule-requires c κs = search needs
 
--- src/state.rt:149:28
 enum-told-3 : tie.Need-enum-told-3
 enum-told-3 c = search needs
 
--- src/state.rt:149:28
 take-wrong-rule-requires : tie.Need-take-wrong-rule-requires
 take-wrong-rule-requires c κs = search needs
 
--- src/state.rt:150:22
 enum-known-l : tie.Need-enum-known-l
 enum-known-l c = search needs
 
--- src/state.rt:150:38
 take-node-requires : tie.Need-take-node-requires
 take-node-requires c κs = search needs
 
--- src/state.rt:151:28
 enum-told-4 : tie.Need-enum-told-4
 enum-told-4 c = search needs
 
--- src/state.rt:151:28
 take-wrong-node-requires : tie.Need-take-wrong-node-requires
 take-wrong-node-requires c κs = search needs
 
--- src/state.rt:152:46
 enum-told-5 : tie.Need-enum-told-5
 enum-told-5 c = search needs
 
--- src/state.rt:152:46
 take-step-requires : tie.Need-take-step-requires
 take-step-requires c κs = search needs
 
--- src/state.rt:153:28
 enum-told-6 : tie.Need-enum-told-6
 enum-told-6 c = search needs
 
--- src/state.rt:153:28
 take-wrong-step-requires : tie.Need-take-wrong-step-requires
 take-wrong-step-requires c κs = search needs
 
--- src/state.rt:142:1
 returns : tie.Need-returns
 returns c = search (needs, line-bad)
 
--- src/state.rt:142:1
 returns-2 : tie.Need-returns-2
 returns-2 c = search (needs, line-rule)
 
--- src/state.rt:142:1
 returns-3 : tie.Need-returns-3
 returns-3 c = search (needs, line-wrong-rule)
 
--- src/state.rt:142:1
 returns-4 : tie.Need-returns-4
 returns-4 c = search (needs, line-node)
 
--- src/state.rt:142:1
 returns-5 : tie.Need-returns-5
 returns-5 c = search (needs, line-wrong-node)
 
--- src/state.rt:142:1
 returns-6 : tie.Need-returns-6
 returns-6 c = search (needs, line-step)
 
--- src/state.rt:142:1
 returns-7 : tie.Need-returns-7
 returns-7 c = search (needs, line-wrong-step)
 

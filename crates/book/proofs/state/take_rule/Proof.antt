@@ -5,27 +5,21 @@ use Rattle.book.proofs.state.take_rule.Tie as tie
 use Rattle.book.proofs.state.take_rule.Reads as reads
 use Rattle.book.proofs.state.take_rule.Lts as lts
 
--- src/state.rt:45:9
 returns : tie.Need-returns
 returns c = search (needs, take-rule-inside)
 
--- src/state.rt:48:9
 returns-2 : tie.Need-returns-2
 returns-2 c = search (needs, take-rule-late)
 
--- src/state.rt:51:9
 returns-3 : tie.Need-returns-3
 returns-3 c = search (needs, take-rule-many)
 
--- src/state.rt:54:16
 add-t4 : tie.Need-add-t4
 add-t4 c = search needs
 
--- src/state.rt:60:15
 add-t5 : tie.Need-add-t5
 add-t5 c = search needs
 
--- src/state.rt:40:1
 returns-4 : tie.Need-returns-4
 returns-4 c = search (needs, take-rule-right)
 

@@ -5,11 +5,9 @@ use Rattle.book.proofs.state.take_step.Tie as tie
 use Rattle.book.proofs.state.take_step.Reads as reads
 use Rattle.book.proofs.state.take_step.Lts as lts
 
--- src/state.rt:119:9
 returns : tie.Need-returns
 returns c = search (needs, take-step-inside)
 
--- src/state.rt:115:1
 returns-2 : tie.Need-returns-2
 returns-2 c = search (needs, take-step-right)
 

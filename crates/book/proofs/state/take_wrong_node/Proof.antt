@@ -5,11 +5,9 @@ use Rattle.book.proofs.state.take_wrong_node.Tie as tie
 use Rattle.book.proofs.state.take_wrong_node.Reads as reads
 use Rattle.book.proofs.state.take_wrong_node.Lts as lts
 
--- src/state.rt:109:9
 returns : tie.Need-returns
 returns c = search (needs, take-wrong-node-outside)
 
--- src/state.rt:105:1
 returns-2 : tie.Need-returns-2
 returns-2 c = search (needs, take-wrong-node-number)
 

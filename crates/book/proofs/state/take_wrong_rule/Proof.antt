@@ -5,15 +5,12 @@ use Rattle.book.proofs.state.take_wrong_rule.Tie as tie
 use Rattle.book.proofs.state.take_wrong_rule.Reads as reads
 use Rattle.book.proofs.state.take_wrong_rule.Lts as lts
 
--- src/state.rt:68:9
 returns : tie.Need-returns
 returns c = search (needs, take-wrong-rule-inside)
 
--- src/state.rt:71:9
 returns-2 : tie.Need-returns-2
 returns-2 c = search (needs, take-wrong-rule-late)
 
--- src/state.rt:64:1
 returns-3 : tie.Need-returns-3
 returns-3 c = search (needs, take-wrong-rule-label)
 

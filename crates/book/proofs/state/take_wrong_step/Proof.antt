@@ -5,11 +5,9 @@ use Rattle.book.proofs.state.take_wrong_step.Tie as tie
 use Rattle.book.proofs.state.take_wrong_step.Reads as reads
 use Rattle.book.proofs.state.take_wrong_step.Lts as lts
 
--- src/state.rt:136:9
 returns : tie.Need-returns
 returns c = search (needs, take-wrong-step-inside)
 
--- src/state.rt:132:1
 returns-2 : tie.Need-returns-2
 returns-2 c = search (needs, take-wrong-step-number)
 

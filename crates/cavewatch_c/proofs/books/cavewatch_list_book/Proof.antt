@@ -8,23 +8,18 @@ use Rattle.cavewatch_c.proofs.tell.say.Reads as say-reads
 use Rattle.cavewatch_c.proofs.tell.tell_listed.Reads as tell-listed-reads
 use Rattle.listing.proofs.whole.list_book.Reads as list-book-reads
 
--- src/books.rt:44:9
 list-book-requires : tie.Need-list-book-requires
 list-book-requires c κs = search needs
 
--- src/books.rt:45:9
 tell-listed-requires : tie.Need-tell-listed-requires
 tell-listed-requires c κs = search needs
 
--- src/books.rt:45:5
 say-requires : tie.Need-say-requires
 say-requires c κs = search needs
 
--- src/books.rt:40:1
 same-length : tie.Need-same-length
 same-length c = search needs
 
--- src/books.rt:40:1
 returns : tie.Need-returns
 returns c = search (needs, list-told)
 

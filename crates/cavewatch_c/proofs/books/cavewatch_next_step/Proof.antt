@@ -8,19 +8,15 @@ use Rattle.cavewatch_c.proofs.tell.say.Reads as say-reads
 use Rattle.cavewatch_c.proofs.tell.tell_line.Reads as tell-line-reads
 use Rattle.reader.proofs.steps.next_step.Reads as next-step-reads
 
--- src/books.rt:35:9
 next-step-requires : tie.Need-next-step-requires
 next-step-requires c κs = search needs
 
--- src/books.rt:36:9
 tell-line-requires : tie.Need-tell-line-requires
 tell-line-requires c κs = search needs
 
--- src/books.rt:36:5
 say-requires : tie.Need-say-requires
 say-requires c κs = search needs
 
--- src/books.rt:31:1
 returns : tie.Need-returns
 returns c = search (needs, line-told)
 

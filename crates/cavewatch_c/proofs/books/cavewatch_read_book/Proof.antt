@@ -8,47 +8,36 @@ use Rattle.cavewatch_c.proofs.tell.say.Reads as say-reads
 use Rattle.cavewatch_c.proofs.tell.tell_read.Reads as tell-read-reads
 use Rattle.reader.proofs.read.read_book.Reads as read-book-reads
 
--- src/books.rt:26:9
 read-book-requires : tie.Need-read-book-requires
 read-book-requires c κs = search needs
 
--- src/books.rt:27:9
 tell-read-requires : tie.Need-tell-read-requires
 tell-read-requires c κs = search (needs, read-small)
 
--- src/books.rt:27:5
 say-requires : tie.Need-say-requires
 say-requires c κs = search needs
 
--- src/books.rt:12:1
 same-length : tie.Need-same-length
 same-length c = search needs
 
--- src/books.rt:12:1
 same-length-2 : tie.Need-same-length-2
 same-length-2 c = search needs
 
--- src/books.rt:12:1
 same-length-3 : tie.Need-same-length-3
 same-length-3 c = search needs
 
--- src/books.rt:12:1
 same-length-4 : tie.Need-same-length-4
 same-length-4 c = search needs
 
--- src/books.rt:12:1
 same-length-5 : tie.Need-same-length-5
 same-length-5 c = search needs
 
--- src/books.rt:12:1
 same-length-6 : tie.Need-same-length-6
 same-length-6 c = search needs
 
--- src/books.rt:12:1
 same-length-7 : tie.Need-same-length-7
 same-length-7 c = search needs
 
--- src/books.rt:12:1
 returns : tie.Need-returns
 returns c = search (needs, read-told)
 

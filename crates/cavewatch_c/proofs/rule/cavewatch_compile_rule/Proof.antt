@@ -8,23 +8,18 @@ use Rattle.cavewatch_c.proofs.tell.say.Reads as say-reads
 use Rattle.cavewatch_c.proofs.tell.tell_compiled.Reads as tell-compiled-reads
 use Rattle.compiler.proofs.compile_formula.Reads as compile-formula-reads
 
--- src/rule.rt:25:9
 compile-formula-requires : tie.Need-compile-formula-requires
 compile-formula-requires c κs = search needs
 
--- src/rule.rt:26:9
 tell-compiled-requires : tie.Need-tell-compiled-requires
 tell-compiled-requires c κs = search needs
 
--- src/rule.rt:26:5
 say-requires : tie.Need-say-requires
 say-requires c κs = search needs
 
--- src/rule.rt:14:1
 same-length : tie.Need-same-length
 same-length c = search needs
 
--- src/rule.rt:14:1
 returns : tie.Need-returns
 returns c = search (needs, compile-told)
 

@@ -7,39 +7,30 @@ use Rattle.cavewatch_c.proofs.rule.cavewatch_fresh.Lts as lts
 use Rattle.cavewatch_c.proofs.tell.tell_made.Reads as tell-made-reads
 use Rattle.stepping.proofs.fresh.fresh.Reads as fresh-reads
 
--- src/rule.rt:50:9
 fresh-requires : tie.Need-fresh-requires
 fresh-requires c κs = search needs
 
--- src/rule.rt:65:5
 tell-made-requires : tie.Need-tell-made-requires
 tell-made-requires c κs = search needs
 
--- src/rule.rt:32:1
 same-length : tie.Need-same-length
 same-length c = search needs
 
--- src/rule.rt:32:1
 same-length-2 : tie.Need-same-length-2
 same-length-2 c = search needs
 
--- src/rule.rt:32:1
 same-length-3 : tie.Need-same-length-3
 same-length-3 c = search needs
 
--- src/rule.rt:32:1
 same-length-4 : tie.Need-same-length-4
 same-length-4 c = search needs
 
--- src/rule.rt:32:1
 same-length-5 : tie.Need-same-length-5
 same-length-5 c = search needs
 
--- src/rule.rt:32:1
 same-length-6 : tie.Need-same-length-6
 same-length-6 c = search needs
 
--- src/rule.rt:32:1
 returns : tie.Need-returns
 returns c = search (needs, fresh-told)
 

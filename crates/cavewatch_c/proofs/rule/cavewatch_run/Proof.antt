@@ -8,35 +8,27 @@ use Rattle.cavewatch_c.proofs.tell.say.Reads as say-reads
 use Rattle.cavewatch_c.proofs.tell.tell_run.Reads as tell-run-reads
 use Rattle.runs.proofs.run.Reads as run-reads
 
--- src/rule.rt:132:9
 run-requires : tie.Need-run-requires
 run-requires c κs = search needs
 
--- src/rule.rt:150:9
 tell-run-requires : tie.Need-tell-run-requires
 tell-run-requires c κs = search needs
 
--- src/rule.rt:150:5
 say-requires : tie.Need-say-requires
 say-requires c κs = search needs
 
--- src/rule.rt:110:1
 same-length : tie.Need-same-length
 same-length c = search needs
 
--- src/rule.rt:110:1
 same-length-2 : tie.Need-same-length-2
 same-length-2 c = search needs
 
--- src/rule.rt:110:1
 same-length-3 : tie.Need-same-length-3
 same-length-3 c = search needs
 
--- src/rule.rt:110:1
 same-length-4 : tie.Need-same-length-4
 same-length-4 c = search needs
 
--- src/rule.rt:110:1
 returns : tie.Need-returns
 returns c = search (needs, run-told)
 

@@ -7,31 +7,24 @@ use Rattle.cavewatch_c.proofs.rule.cavewatch_step.Lts as lts
 use Rattle.cavewatch_c.proofs.tell.tell_verdict.Reads as tell-verdict-reads
 use Rattle.stepping.proofs.call.step.Reads as step-reads
 
--- src/rule.rt:90:9
 step-requires : tie.Need-step-requires
 step-requires c κs = search needs
 
--- src/rule.rt:108:5
 tell-verdict-requires : tie.Need-tell-verdict-requires
 tell-verdict-requires c κs = search needs
 
--- src/rule.rt:69:1
 same-length : tie.Need-same-length
 same-length c = search needs
 
--- src/rule.rt:69:1
 same-length-2 : tie.Need-same-length-2
 same-length-2 c = search needs
 
--- src/rule.rt:69:1
 same-length-3 : tie.Need-same-length-3
 same-length-3 c = search needs
 
--- src/rule.rt:69:1
 same-length-4 : tie.Need-same-length-4
 same-length-4 c = search needs
 
--- src/rule.rt:69:1
 returns : tie.Need-returns
 returns c = search (needs, step-told)
 

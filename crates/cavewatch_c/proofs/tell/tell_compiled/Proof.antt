@@ -5,19 +5,15 @@ use Rattle.cavewatch_c.proofs.tell.tell_compiled.Tie as tie
 use Rattle.cavewatch_c.proofs.tell.tell_compiled.Reads as reads
 use Rattle.cavewatch_c.proofs.tell.tell_compiled.Lts as lts
 
--- src/tell.rt:74:25
 enum-known-answer : tie.Need-enum-known-answer
 enum-known-answer c = search needs
 
--- src/tell.rt:75:27
 enum-known-answer-2 : tie.Need-enum-known-answer-2
 enum-known-answer-2 c = search needs
 
--- src/tell.rt:70:1
 returns : tie.Need-returns
 returns c = search (needs, told-nodes, told-uncompiled)
 
--- src/tell.rt:70:1
 returns-2 : tie.Need-returns-2
 returns-2 c = search (needs, told-nodes, told-uncompiled)
 

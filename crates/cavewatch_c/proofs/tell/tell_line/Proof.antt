@@ -5,19 +5,15 @@ use Rattle.cavewatch_c.proofs.tell.tell_line.Tie as tie
 use Rattle.cavewatch_c.proofs.tell.tell_line.Reads as reads
 use Rattle.cavewatch_c.proofs.tell.tell_line.Lts as lts
 
--- src/tell.rt:65:26
 enum-known-line : tie.Need-enum-known-line
 enum-known-line c = search needs
 
--- src/tell.rt:66:26
 enum-told : tie.Need-enum-told
 enum-told c = search needs
 
--- src/tell.rt:61:1
 returns : tie.Need-returns
 returns c = search (needs, told-line, told-end)
 
--- src/tell.rt:61:1
 returns-2 : tie.Need-returns-2
 returns-2 c = search (needs, told-line, told-end)
 

@@ -5,19 +5,15 @@ use Rattle.cavewatch_c.proofs.tell.tell_listed.Tie as tie
 use Rattle.cavewatch_c.proofs.tell.tell_listed.Reads as reads
 use Rattle.cavewatch_c.proofs.tell.tell_listed.Lts as lts
 
--- src/tell.rt:120:22
 enum-known-answer : tie.Need-enum-known-answer
 enum-known-answer c = search needs
 
--- src/tell.rt:121:25
 enum-known-answer-2 : tie.Need-enum-known-answer-2
 enum-known-answer-2 c = search needs
 
--- src/tell.rt:116:1
 returns : tie.Need-returns
 returns c = search (needs, told-text, told-unlisted)
 
--- src/tell.rt:116:1
 returns-2 : tie.Need-returns-2
 returns-2 c = search (needs, told-text, told-unlisted)
 

@@ -5,31 +5,24 @@ use Rattle.cavewatch_c.proofs.tell.tell_read.Tie as tie
 use Rattle.cavewatch_c.proofs.tell.tell_read.Reads as reads
 use Rattle.cavewatch_c.proofs.tell.tell_read.Lts as lts
 
--- src/tell.rt:53:13
 enum-known-answer : tie.Need-enum-known-answer
 enum-known-answer c = search needs
 
--- src/tell.rt:57:27
 enum-known-answer-2 : tie.Need-enum-known-answer-2
 enum-known-answer-2 c = search needs
 
--- src/tell.rt:57:58
 cast-t11 : tie.Need-cast-t11
 cast-t11 c = search needs
 
--- src/tell.rt:57:74
 mul-t13 : tie.Need-mul-t13
 mul-t13 c = search (needs, line-fits)
 
--- src/tell.rt:57:58
 add-t14 : tie.Need-add-t14
 add-t14 c = search (needs, both-fit)
 
--- src/tell.rt:47:1
 returns : tie.Need-returns
 returns c = search (needs, told-read, told-unread)
 
--- src/tell.rt:47:1
 returns-2 : tie.Need-returns-2
 returns-2 c = search (needs, told-read, told-unread)
 

@@ -6,23 +6,18 @@ use Rattle.cavewatch_c.proofs.tell.tell_verdict.Reads as reads
 use Rattle.cavewatch_c.proofs.tell.tell_verdict.Lts as lts
 use Rattle.cavewatch_c.proofs.tell.report_code.Reads as report-code-reads
 
--- src/tell.rt:101:27
 enum-known-verdict : tie.Need-enum-known-verdict
 enum-known-verdict c = search needs
 
--- src/tell.rt:101:37
 report-code-requires : tie.Need-report-code-requires
 report-code-requires c κs = search needs
 
--- src/tell.rt:102:26
 enum-known-verdict-2 : tie.Need-enum-known-verdict-2
 enum-known-verdict-2 c = search needs
 
--- src/tell.rt:97:1
 returns : tie.Need-returns
 returns c = search (needs, told-verdict, told-unstepped)
 
--- src/tell.rt:97:1
 returns-2 : tie.Need-returns-2
 returns-2 c = search (needs, told-verdict, told-unstepped)
 

@@ -48,20 +48,17 @@ abbrev value-at-below : ℕ → In 2 value-at-kinds.ps
 value-at-below t =
     and 2 value-at-kinds.ps (falls 2 value-at-kinds.ps _<_ μ-value-at t) value-at.Pre
 
--- src/signal.rt:91:5
 apart-at-node-at-requires : (t : ℕ) → apart-at-lts.Need-node-at-requires (
   node-at-below t,
   node-at.Post,
 ) (apart-at-at t) apart-at.Post
 apart-at-node-at-requires t c κs = search needs
 
--- src/signal.rt:87:1
 apart-at-returns :
     (t : ℕ) →
     apart-at-lts.Need-returns (node-at-below t, node-at.Post) (apart-at-at t) apart-at.Post
 apart-at-returns t c = search needs
 
--- src/signal.rt:99:14
 node-at-shared-slice-read-op : (t : ℕ) → node-at-lts.Need-shared-slice-read-op (
   value-at-below t,
   value-at.Post,
@@ -70,7 +67,6 @@ node-at-shared-slice-read-op : (t : ℕ) → node-at-lts.Need-shared-slice-read-
 ) (node-at-at t) node-at.Post
 node-at-shared-slice-read-op t c = search (needs, sig-in-ops)
 
--- src/signal.rt:100:36
 node-at-add-value-at : (t : ℕ) → node-at-lts.Need-add-value-at (
   value-at-below t,
   value-at.Post,
@@ -79,7 +75,6 @@ node-at-add-value-at : (t : ℕ) → node-at-lts.Need-add-value-at (
 ) (node-at-at t) node-at.Post
 node-at-add-value-at t c = search needs
 
--- src/signal.rt:100:9
 node-at-value-at-requires : (t : ℕ) → node-at-lts.Need-value-at-requires (
   value-at-below t,
   value-at.Post,
@@ -88,7 +83,6 @@ node-at-value-at-requires : (t : ℕ) → node-at-lts.Need-value-at-requires (
 ) (node-at-at t) node-at.Post
 node-at-value-at-requires t c κs = search (needs, sig-next, sig-falls)
 
--- src/signal.rt:102:9
 node-at-returns : (t : ℕ) → node-at-lts.Need-returns (
   value-at-below t,
   value-at.Post,
@@ -97,7 +91,6 @@ node-at-returns : (t : ℕ) → node-at-lts.Need-returns (
 ) (node-at-at t) node-at.Post
 node-at-returns t c = search (needs, valued-not)
 
--- src/signal.rt:107:9
 node-at-value-at-requires-2 : (t : ℕ) → node-at-lts.Need-value-at-requires-2 (
   value-at-below t,
   value-at.Post,
@@ -106,7 +99,6 @@ node-at-value-at-requires-2 : (t : ℕ) → node-at-lts.Need-value-at-requires-2
 ) (node-at-at t) node-at.Post
 node-at-value-at-requires-2 t c κs = search (needs, sig-right, sig-falls-right)
 
--- src/signal.rt:109:16
 node-at-join-requires : (t : ℕ) → node-at-lts.Need-join-requires (
   value-at-below t,
   value-at.Post,
@@ -115,7 +107,6 @@ node-at-join-requires : (t : ℕ) → node-at-lts.Need-join-requires (
 ) (node-at-at t) node-at.Post
 node-at-join-requires t c κs = search needs
 
--- src/signal.rt:95:1
 node-at-returns-2 : (t : ℕ) → node-at-lts.Need-returns-2 (
   value-at-below t,
   value-at.Post,
@@ -124,7 +115,6 @@ node-at-returns-2 : (t : ℕ) → node-at-lts.Need-returns-2 (
 ) (node-at-at t) node-at.Post
 node-at-returns-2 t c = search (needs, valued-two)
 
--- src/signal.rt:77:8
 value-at-shared-slice-read-if1 : (t : ℕ) → value-at-lts.Need-shared-slice-read-if1 (
   truth-reads.Asked,
   truth-reads.Learnt,
@@ -133,7 +123,6 @@ value-at-shared-slice-read-if1 : (t : ℕ) → value-at-lts.Need-shared-slice-re
 ) (value-at-at t) value-at.Post
 value-at-shared-slice-read-if1 t c = search (needs, sig-in-ops)
 
--- src/signal.rt:79:32
 value-at-mul-truth : (t : ℕ) → value-at-lts.Need-mul-truth (
   truth-reads.Asked,
   truth-reads.Learnt,
@@ -142,7 +131,6 @@ value-at-mul-truth : (t : ℕ) → value-at-lts.Need-mul-truth (
 ) (value-at-at t) value-at.Post
 value-at-mul-truth t c = search needs
 
--- src/signal.rt:79:32
 value-at-shared-slice-read-truth : (t : ℕ) → value-at-lts.Need-shared-slice-read-truth (
   truth-reads.Asked,
   truth-reads.Learnt,
@@ -151,7 +139,6 @@ value-at-shared-slice-read-truth : (t : ℕ) → value-at-lts.Need-shared-slice-
 ) (value-at-at t) value-at.Post
 value-at-shared-slice-read-truth t c = search (needs, sig-in-nums)
 
--- src/signal.rt:79:20
 value-at-truth-requires : (t : ℕ) → value-at-lts.Need-truth-requires (
   truth-reads.Asked,
   truth-reads.Learnt,
@@ -160,7 +147,6 @@ value-at-truth-requires : (t : ℕ) → value-at-lts.Need-truth-requires (
 ) (value-at-at t) value-at.Post
 value-at-truth-requires t c κs = search (needs, sig-small)
 
--- src/signal.rt:80:18
 value-at-add-t12 : (t : ℕ) → value-at-lts.Need-add-t12 (
   truth-reads.Asked,
   truth-reads.Learnt,
@@ -169,7 +155,6 @@ value-at-add-t12 : (t : ℕ) → value-at-lts.Need-add-t12 (
 ) (value-at-at t) value-at.Post
 value-at-add-t12 t c = search needs
 
--- src/signal.rt:78:9
 value-at-returns : (t : ℕ) → value-at-lts.Need-returns (
   truth-reads.Asked,
   truth-reads.Learnt,
@@ -178,7 +163,6 @@ value-at-returns : (t : ℕ) → value-at-lts.Need-returns (
 ) (value-at-at t) value-at.Post
 value-at-returns t c = search (needs, valued-leaf)
 
--- src/signal.rt:83:5
 value-at-apart-at-requires : (t : ℕ) → value-at-lts.Need-apart-at-requires (
   truth-reads.Asked,
   truth-reads.Learnt,
@@ -187,7 +171,6 @@ value-at-apart-at-requires : (t : ℕ) → value-at-lts.Need-apart-at-requires (
 ) (value-at-at t) value-at.Post
 value-at-apart-at-requires t c κs = search needs
 
--- src/signal.rt:73:1
 value-at-returns-2 : (t : ℕ) → value-at-lts.Need-returns-2 (
   truth-reads.Asked,
   truth-reads.Learnt,

@@ -20,94 +20,79 @@ pure-at-at t = and 2 pure-at-kinds.ps (is 2 pure-at-kinds.ps μ-pure-at t) pure-
 abbrev pure-at-below : ℕ → In 2 pure-at-kinds.ps
 pure-at-below t = and 2 pure-at-kinds.ps (falls 2 pure-at-kinds.ps _<_ μ-pure-at t) pure-at.Pre
 
--- src/signal.rt:15:14
 pure-at-shared-slice-read-op : (t : ℕ) → pure-at-lts.Need-shared-slice-read-op (
   pure-at-below t,
   pure-at.Post,
 ) (pure-at-at t) pure-at.Post
 pure-at-shared-slice-read-op t c = search (needs, in-ops)
 
--- src/signal.rt:17:9
 pure-at-returns :
     (t : ℕ) → pure-at-lts.Need-returns (pure-at-below t, pure-at.Post) (pure-at-at t) pure-at.Post
 pure-at-returns t c = search (needs, purely-until)
 
--- src/signal.rt:20:27
 pure-at-add-t10 :
     (t : ℕ) → pure-at-lts.Need-add-t10 (pure-at-below t, pure-at.Post) (pure-at-at t) pure-at.Post
 pure-at-add-t10 t c = search needs
 
--- src/signal.rt:20:9
 pure-at-returns-2 :
     (t : ℕ) →
     pure-at-lts.Need-returns-2 (pure-at-below t, pure-at.Post) (pure-at-at t) pure-at.Post
 pure-at-returns-2 t c = search (needs, purely-leaf)
 
--- src/signal.rt:23:35
 pure-at-add-pure-at :
     (t : ℕ) →
     pure-at-lts.Need-add-pure-at (pure-at-below t, pure-at.Post) (pure-at-at t) pure-at.Post
 pure-at-add-pure-at t c = search needs
 
--- src/signal.rt:23:9
 pure-at-pure-at-requires : (t : ℕ) → pure-at-lts.Need-pure-at-requires (
   pure-at-below t,
   pure-at.Post,
 ) (pure-at-at t) pure-at.Post
 pure-at-pure-at-requires t c κs = search (needs, placed-not, fewer-not)
 
--- src/signal.rt:23:9
 pure-at-returns-3 :
     (t : ℕ) →
     pure-at-lts.Need-returns-3 (pure-at-below t, pure-at.Post) (pure-at-at t) pure-at.Post
 pure-at-returns-3 t c = search (needs, purely-not)
 
--- src/signal.rt:26:9
 pure-at-returns-4 :
     (t : ℕ) →
     pure-at-lts.Need-returns-4 (pure-at-below t, pure-at.Post) (pure-at-at t) pure-at.Post
 pure-at-returns-4 t c = search (needs, purely-temporal)
 
--- src/signal.rt:28:35
 pure-at-add-pure-at-2 :
     (t : ℕ) →
     pure-at-lts.Need-add-pure-at-2 (pure-at-below t, pure-at.Post) (pure-at-at t) pure-at.Post
 pure-at-add-pure-at-2 t c = search needs
 
--- src/signal.rt:28:9
 pure-at-pure-at-requires-2 : (t : ℕ) → pure-at-lts.Need-pure-at-requires-2 (
   pure-at-below t,
   pure-at.Post,
 ) (pure-at-at t) pure-at.Post
 pure-at-pure-at-requires-2 t c κs = search (needs, placed-left, fewer-left)
 
--- src/signal.rt:29:20
 pure-at-enum-known-left : (t : ℕ) → pure-at-lts.Need-enum-known-left (
   pure-at-below t,
   pure-at.Post,
 ) (pure-at-at t) pure-at.Post
 pure-at-enum-known-left t c = search needs
 
--- src/signal.rt:30:9
 pure-at-enum-told :
     (t : ℕ) →
     pure-at-lts.Need-enum-told (pure-at-below t, pure-at.Post) (pure-at-at t) pure-at.Post
 pure-at-enum-told t c = search needs
 
--- src/signal.rt:30:9
 pure-at-returns-5 :
     (t : ℕ) →
     pure-at-lts.Need-returns-5 (pure-at-below t, pure-at.Post) (pure-at-at t) pure-at.Post
 pure-at-returns-5 t c = search (needs, purely-left)
 
--- src/signal.rt:32:5
 pure-at-pure-at-requires-3 : (t : ℕ) → pure-at-lts.Need-pure-at-requires-3 (
   pure-at-below t,
   pure-at.Post,
 ) (pure-at-at t) pure-at.Post
 pure-at-pure-at-requires-3 t c κs = search (needs, placed-behind, fewer-behind)
 
--- src/signal.rt:11:1
 pure-at-returns-6 :
     (t : ℕ) →
     pure-at-lts.Need-returns-6 (pure-at-below t, pure-at.Post) (pure-at-at t) pure-at.Post

@@ -5,27 +5,21 @@ use Rattle.formula.proofs.signal.join.Tie as tie
 use Rattle.formula.proofs.signal.join.Reads as reads
 use Rattle.formula.proofs.signal.join.Lts as lts
 
--- src/signal.rt:55:13
 returns : tie.Need-returns
 returns c = search (needs, and-left)
 
--- src/signal.rt:57:9
 returns-2 : tie.Need-returns-2
 returns-2 c = search (needs, and-not)
 
--- src/signal.rt:61:13
 returns-3 : tie.Need-returns-3
 returns-3 c = search (needs, or-left)
 
--- src/signal.rt:63:9
 returns-4 : tie.Need-returns-4
 returns-4 c = search (needs, or-right)
 
--- src/signal.rt:66:9
 returns-5 : tie.Need-returns-5
 returns-5 c = search (needs, implies-left)
 
--- src/signal.rt:50:1
 returns-6 : tie.Need-returns-6
 returns-6 c = search (needs, implies-not)
 

@@ -19,117 +19,98 @@ tree-at-at t = and 2 tree-at-kinds.ps (is 2 tree-at-kinds.ps μ-tree-at t) tree-
 abbrev tree-at-below : ℕ → In 2 tree-at-kinds.ps
 tree-at-below t = and 2 tree-at-kinds.ps (falls 2 tree-at-kinds.ps _<_ μ-tree-at t) tree-at.Pre
 
--- src/table.rt:22:9
 tree-at-returns :
     (t : ℕ) → tree-at-lts.Need-returns (tree-at-below t, tree-at.Post) (tree-at-at t) tree-at.Post
 tree-at-returns t c = search (needs, walk-past)
 
--- src/table.rt:25:9
 tree-at-returns-2 :
     (t : ℕ) →
     tree-at-lts.Need-returns-2 (tree-at-below t, tree-at.Post) (tree-at-at t) tree-at.Post
 tree-at-returns-2 t c = search (needs, walk-flat)
 
--- src/table.rt:27:14
 tree-at-shared-slice-read-op : (t : ℕ) → tree-at-lts.Need-shared-slice-read-op (
   tree-at-below t,
   tree-at.Post,
 ) (tree-at-at t) tree-at.Post
 tree-at-shared-slice-read-op t c = search needs
 
--- src/table.rt:29:9
 tree-at-returns-3 :
     (t : ℕ) →
     tree-at-lts.Need-returns-3 (tree-at-below t, tree-at.Post) (tree-at-at t) tree-at.Post
 tree-at-returns-3 t c = search (needs, at-unknown)
 
--- src/table.rt:32:12
 tree-at-mul-if5 :
     (t : ℕ) → tree-at-lts.Need-mul-if5 (tree-at-below t, tree-at.Post) (tree-at-at t) tree-at.Post
 tree-at-mul-if5 t c = search needs
 
--- src/table.rt:32:12
 tree-at-shared-slice-read-if5 : (t : ℕ) → tree-at-lts.Need-shared-slice-read-if5 (
   tree-at-below t,
   tree-at.Post,
 ) (tree-at-at t) tree-at.Post
 tree-at-shared-slice-read-if5 t c = search needs
 
--- src/table.rt:33:31
 tree-at-add-t16 :
     (t : ℕ) → tree-at-lts.Need-add-t16 (tree-at-below t, tree-at.Post) (tree-at-at t) tree-at.Post
 tree-at-add-t16 t c = search needs
 
--- src/table.rt:33:13
 tree-at-returns-4 :
     (t : ℕ) →
     tree-at-lts.Need-returns-4 (tree-at-below t, tree-at.Post) (tree-at-at t) tree-at.Post
 tree-at-returns-4 t c = search (needs, at-atom)
 
--- src/table.rt:35:9
 tree-at-returns-5 :
     (t : ℕ) →
     tree-at-lts.Need-returns-5 (tree-at-below t, tree-at.Post) (tree-at-at t) tree-at.Post
 tree-at-returns-5 t c = search (needs, at-large)
 
--- src/table.rt:37:36
 tree-at-add-tree-at :
     (t : ℕ) →
     tree-at-lts.Need-add-tree-at (tree-at-below t, tree-at.Post) (tree-at-at t) tree-at.Post
 tree-at-add-tree-at t c = search needs
 
--- src/table.rt:37:48
 tree-at-sub-tree-at :
     (t : ℕ) →
     tree-at-lts.Need-sub-tree-at (tree-at-below t, tree-at.Post) (tree-at-at t) tree-at.Post
 tree-at-sub-tree-at t c = search needs
 
--- src/table.rt:37:9
 tree-at-tree-at-requires : (t : ℕ) → tree-at-lts.Need-tree-at-requires (
   tree-at-below t,
   tree-at.Post,
 ) (tree-at-at t) tree-at.Post
 tree-at-tree-at-requires t c κs = search needs
 
--- src/table.rt:39:9
 tree-at-returns-6 :
     (t : ℕ) →
     tree-at-lts.Need-returns-6 (tree-at-below t, tree-at.Post) (tree-at-at t) tree-at.Post
 tree-at-returns-6 t c = search (needs, at-one)
 
--- src/table.rt:41:20
 tree-at-enum-known-first : (t : ℕ) → tree-at-lts.Need-enum-known-first (
   tree-at-below t,
   tree-at.Post,
 ) (tree-at-at t) tree-at.Post
 tree-at-enum-known-first t c = search needs
 
--- src/table.rt:42:9
 tree-at-enum-told :
     (t : ℕ) →
     tree-at-lts.Need-enum-told (tree-at-below t, tree-at.Post) (tree-at-at t) tree-at.Post
 tree-at-enum-told t c = search needs
 
--- src/table.rt:42:9
 tree-at-returns-7 :
     (t : ℕ) →
     tree-at-lts.Need-returns-7 (tree-at-below t, tree-at.Post) (tree-at-at t) tree-at.Post
 tree-at-returns-7 t c = search (needs, at-left)
 
--- src/table.rt:44:32
 tree-at-sub-tree-at-2 :
     (t : ℕ) →
     tree-at-lts.Need-sub-tree-at-2 (tree-at-below t, tree-at.Post) (tree-at-at t) tree-at.Post
 tree-at-sub-tree-at-2 t c = search needs
 
--- src/table.rt:44:5
 tree-at-tree-at-requires-2 : (t : ℕ) → tree-at-lts.Need-tree-at-requires-2 (
   tree-at-below t,
   tree-at.Post,
 ) (tree-at-at t) tree-at.Post
 tree-at-tree-at-requires-2 t c κs = search (needs, falls-past)
 
--- src/table.rt:17:1
 tree-at-returns-8 :
     (t : ℕ) →
     tree-at-lts.Need-returns-8 (tree-at-below t, tree-at.Post) (tree-at-at t) tree-at.Post

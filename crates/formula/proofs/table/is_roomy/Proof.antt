@@ -5,15 +5,12 @@ use Rattle.formula.proofs.table.is_roomy.Tie as tie
 use Rattle.formula.proofs.table.is_roomy.Reads as reads
 use Rattle.formula.proofs.table.is_roomy.Lts as lts
 
--- src/table.rt:76:9
 returns : tie.Need-returns
 returns c = search (needs, short-ops)
 
--- src/table.rt:79:9
 returns-2 : tie.Need-returns-2
 returns-2 c = search (needs, short-nums)
 
--- src/table.rt:72:1
 returns-3 : tie.Need-returns-3
 returns-3 c = search (needs, both-long)
 

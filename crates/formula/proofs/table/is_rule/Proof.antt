@@ -6,51 +6,39 @@ use Rattle.formula.proofs.table.is_rule.Reads as reads
 use Rattle.formula.proofs.table.is_rule.Lts as lts
 use Rattle.formula.proofs.table.tree_at.Reads as tree-at-reads
 
--- src/table.rt:50:9
 returns : tie.Need-returns
 returns c = search (needs, too-many)
 
--- src/table.rt:52:8
 sub-if2 : tie.Need-sub-if2
 sub-if2 c = search needs
 
--- src/table.rt:53:9
 returns-2 : tie.Need-returns-2
 returns-2 c = search (needs, past-table)
 
--- src/table.rt:55:15
 add-end : tie.Need-add-end
 add-end c = search needs
 
--- src/table.rt:57:9
 returns-3 : tie.Need-returns-3
 returns-3 c = search (needs, past-ops)
 
--- src/table.rt:60:9
 returns-4 : tie.Need-returns-4
 returns-4 c = search (needs, past-nums)
 
--- src/table.rt:62:25
 tree-at-requires : tie.Need-tree-at-requires
 tree-at-requires c κs = search needs
 
--- src/table.rt:62:20
 enum-known-e : tie.Need-enum-known-e
 enum-known-e c = search needs
 
--- src/table.rt:63:9
 enum-told : tie.Need-enum-told
 enum-told c = search needs
 
--- src/table.rt:63:9
 returns-5 : tie.Need-returns-5
 returns-5 c = search (needs, no-tree)
 
--- src/table.rt:66:9
 returns-6 : tie.Need-returns-6
 returns-6 c = search (needs, whole)
 
--- src/table.rt:46:1
 returns-7 : tie.Need-returns-7
 returns-7 c = search (needs, other-end)
 

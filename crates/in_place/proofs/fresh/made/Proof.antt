@@ -7,39 +7,30 @@ use Rattle.in_place.proofs.fresh.made.Lts as lts
 use Rattle.in_place.proofs.fresh.size_after.Reads as size-after-reads
 use Rattle.stepping.proofs.fresh.fresh.Reads as fresh-reads
 
--- src/fresh.rt:49:9
 slice-aggregate-fresh : tie.Need-slice-aggregate-fresh
 slice-aggregate-fresh c = search needs
 
--- src/fresh.rt:50:9
 slice-aggregate-fresh-2 : tie.Need-slice-aggregate-fresh-2
 slice-aggregate-fresh-2 c = search needs
 
--- src/fresh.rt:51:9
 slice-aggregate-fresh-3 : tie.Need-slice-aggregate-fresh-3
 slice-aggregate-fresh-3 c = search needs
 
--- src/fresh.rt:52:9
 slice-aggregate-fresh-4 : tie.Need-slice-aggregate-fresh-4
 slice-aggregate-fresh-4 c = search needs
 
--- src/fresh.rt:53:9
 slice-aggregate-fresh-5 : tie.Need-slice-aggregate-fresh-5
 slice-aggregate-fresh-5 c = search needs
 
--- src/fresh.rt:54:9
 slice-aggregate-fresh-6 : tie.Need-slice-aggregate-fresh-6
 slice-aggregate-fresh-6 c = search needs
 
--- src/fresh.rt:41:9
 fresh-requires : tie.Need-fresh-requires
 fresh-requires c κs = search needs
 
--- src/fresh.rt:56:9
 size-after-requires : tie.Need-size-after-requires
 size-after-requires c κs = search needs
 
--- src/fresh.rt:23:1
 returns : tie.Need-returns
 returns c = search (needs, makes)
 

@@ -9,87 +9,66 @@ use Rattle.compiler.proofs.compile_formula.Reads as compile-formula-reads
 use Rattle.formula.proofs.table.is_rule.Reads as is-rule-reads
 use Rattle.monitor.proofs.table.is_compiled.Reads as is-compiled-reads
 
--- src/book.rt:64:17
 mul-first : tie.Need-mul-first
 mul-first c = search needs
 
--- src/book.rt:64:17
 shared-slice-read-first : tie.Need-shared-slice-read-first
 shared-slice-read-first c = search needs
 
--- src/book.rt:65:17
 mul-count : tie.Need-mul-count
 mul-count c = search needs
 
--- src/book.rt:65:17
 shared-slice-read-count : tie.Need-shared-slice-read-count
 shared-slice-read-count c = search needs
 
--- src/book.rt:66:16
 mul-flag : tie.Need-mul-flag
 mul-flag c = search needs
 
--- src/book.rt:66:16
 shared-slice-read-flag : tie.Need-shared-slice-read-flag
 shared-slice-read-flag c = search needs
 
--- src/book.rt:67:9
 is-rule-requires : tie.Need-is-rule-requires
 is-rule-requires c κs = search needs
 
--- src/book.rt:68:9
 returns : tie.Need-returns
 returns c = search (needs, fine-no-rule, not-true, not-false)
 
--- src/book.rt:71:59
 slice-aggregate-compile-formula : tie.Need-slice-aggregate-compile-formula
 slice-aggregate-compile-formula c = search needs
 
--- src/book.rt:71:9
 compile-formula-requires : tie.Need-compile-formula-requires
 compile-formula-requires c κs = search needs
 
--- src/book.rt:74:16
 enum-told : tie.Need-enum-told
 enum-told c = search needs
 
--- src/book.rt:75:17
 returns-2 : tie.Need-returns-2
 returns-2 c = search (needs, fine-flagged, not-true, not-false)
 
--- src/book.rt:77:64
 mul-is-compiled : tie.Need-mul-is-compiled
 mul-is-compiled c = search needs
 
--- src/book.rt:77:64
 shared-slice-read-is-compiled : tie.Need-shared-slice-read-is-compiled
 shared-slice-read-is-compiled c = search needs
 
--- src/book.rt:77:76
 mul-is-compiled-2 : tie.Need-mul-is-compiled-2
 mul-is-compiled-2 c = search needs
 
--- src/book.rt:77:76
 shared-slice-read-is-compiled-2 : tie.Need-shared-slice-read-is-compiled-2
 shared-slice-read-is-compiled-2 c = search needs
 
--- src/book.rt:77:13
 is-compiled-requires : tie.Need-is-compiled-requires
 is-compiled-requires c κs = search needs
 
--- src/book.rt:77:13
 returns-3 : tie.Need-returns-3
 returns-3 c = search (needs, fine-compiled, not-true, not-false)
 
--- src/book.rt:79:27
 enum-known-answer : tie.Need-enum-known-answer
 enum-known-answer c = search needs
 
--- src/book.rt:81:17
 returns-4 : tie.Need-returns-4
 returns-4 c = search (needs, fine-unflagged, not-true, not-false)
 
--- src/book.rt:83:13
 returns-5 : tie.Need-returns-5
 returns-5 c = search (needs, fine-refused, not-true, not-false)
 

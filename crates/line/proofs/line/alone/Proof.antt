@@ -5,15 +5,12 @@ use Rattle.line.proofs.line.alone.Tie as tie
 use Rattle.line.proofs.line.alone.Reads as reads
 use Rattle.line.proofs.line.alone.Lts as lts
 
--- src/line.rt:78:21
 enum-known-w : tie.Need-enum-known-w
 enum-known-w c = search needs
 
--- src/line.rt:74:1
 returns : tie.Need-returns
 returns c = search (needs, alone-plain)
 
--- src/line.rt:74:1
 returns-2 : tie.Need-returns-2
 returns-2 c = search (needs, alone-other)
 

@@ -6,27 +6,21 @@ use Rattle.line.proofs.line.atom.Reads as reads
 use Rattle.line.proofs.line.atom.Lts as lts
 use Rattle.number.proofs.decimal.Reads as decimal-reads
 
--- src/line.rt:87:9
 decimal-requires : tie.Need-decimal-requires
 decimal-requires c κs = search needs
 
--- src/line.rt:88:23
 enum-known-n : tie.Need-enum-known-n
 enum-known-n c = search needs
 
--- src/line.rt:89:9
 enum-told : tie.Need-enum-told
 enum-told c = search needs
 
--- src/line.rt:89:9
 returns : tie.Need-returns
 returns c = search (needs, atom-wrong)
 
--- src/line.rt:92:9
 returns-2 : tie.Need-returns-2
 returns-2 c = search (needs, atom-right)
 
--- src/line.rt:84:1
 returns-3 : tie.Need-returns-3
 returns-3 c = search (needs, atom-large)
 

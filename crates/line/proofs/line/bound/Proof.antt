@@ -6,23 +6,18 @@ use Rattle.line.proofs.line.bound.Reads as reads
 use Rattle.line.proofs.line.bound.Lts as lts
 use Rattle.number.proofs.decimal.Reads as decimal-reads
 
--- src/line.rt:101:9
 decimal-requires : tie.Need-decimal-requires
 decimal-requires c κs = search needs
 
--- src/line.rt:102:23
 enum-known-n : tie.Need-enum-known-n
 enum-known-n c = search needs
 
--- src/line.rt:103:9
 enum-told : tie.Need-enum-told
 enum-told c = search needs
 
--- src/line.rt:103:9
 returns : tie.Need-returns
 returns c = search (needs, bound-wrong)
 
--- src/line.rt:98:1
 returns-2 : tie.Need-returns-2
 returns-2 c = search (needs, bound-right)
 

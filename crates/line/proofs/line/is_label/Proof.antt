@@ -13,43 +13,33 @@ Inv-loop s i₀ i = Labelling s i
 abbrev μ-loop : tie.MeasureT-loop
 μ-loop s i₀ i = length s - i
 
--- src/line.rt:31:9
 returns : tie.Need-returns Inv-loop μ-loop
 returns c = search (needs, label-empty)
 
--- src/line.rt:34:9
 returns-2 : tie.Need-returns-2 Inv-loop μ-loop
 returns-2 c = search (needs, label-long)
 
--- src/line.rt:37:5
 loop-holds : tie.Need-loop-holds Inv-loop μ-loop
 loop-holds c = search (needs, label-first)
 
--- src/line.rt:38:17
 shared-slice-read-b : tie.Need-shared-slice-read-b Inv-loop μ-loop
 shared-slice-read-b c = search needs
 
--- src/line.rt:40:13
 returns-3 : tie.Need-returns-3 Inv-loop μ-loop
 returns-3 c = search (needs, label-low)
 
--- src/line.rt:43:13
 returns-4 : tie.Need-returns-4 Inv-loop μ-loop
 returns-4 c = search (needs, label-high)
 
--- src/line.rt:45:9
 add-i : tie.Need-add-i Inv-loop μ-loop
 add-i c = search needs
 
--- src/line.rt:37:5
 loop-less : tie.Need-loop-less Inv-loop μ-loop
 loop-less c = search needs
 
--- src/line.rt:37:5
 loop-again : tie.Need-loop-again Inv-loop μ-loop
 loop-again c = search (needs, label-next)
 
--- src/line.rt:27:1
 returns-5 : tie.Need-returns-5 Inv-loop μ-loop
 returns-5 c = search (needs, label-end)
 

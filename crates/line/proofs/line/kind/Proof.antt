@@ -6,31 +6,24 @@ use Rattle.line.proofs.line.kind.Reads as reads
 use Rattle.line.proofs.line.kind.Lts as lts
 use Rattle.line.proofs.text.same.Reads as same-reads
 
--- src/line.rt:54:16
 slice-aggregate-same : tie.Need-slice-aggregate-same
 slice-aggregate-same c = search needs
 
--- src/line.rt:54:8
 same-requires : tie.Need-same-requires
 same-requires c κs = search needs
 
--- src/line.rt:55:9
 returns : tie.Need-returns
 returns c = search (needs, kind-p)
 
--- src/line.rt:57:16
 slice-aggregate-same-2 : tie.Need-slice-aggregate-same-2
 slice-aggregate-same-2 c = search needs
 
--- src/line.rt:57:8
 same-requires-2 : tie.Need-same-requires-2
 same-requires-2 c κs = search needs
 
--- src/line.rt:58:9
 returns-2 : tie.Need-returns-2
 returns-2 c = search (needs, kind-a)
 
--- src/line.rt:51:1
 returns-3 : tie.Need-returns-3
 returns-3 c = search (needs, kind-none)
 

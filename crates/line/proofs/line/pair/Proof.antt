@@ -7,31 +7,24 @@ use Rattle.line.proofs.line.pair.Lts as lts
 use Rattle.line.proofs.line.atom.Reads as atom-reads
 use Rattle.line.proofs.line.bound.Reads as bound-reads
 
--- src/line.rt:113:20
 enum-known-w : tie.Need-enum-known-w
 enum-known-w c = search needs
 
--- src/line.rt:113:27
 atom-requires : tie.Need-atom-requires
 atom-requires c κs = search needs
 
--- src/line.rt:114:23
 enum-known-w-2 : tie.Need-enum-known-w-2
 enum-known-w-2 c = search needs
 
--- src/line.rt:114:30
 bound-requires : tie.Need-bound-requires
 bound-requires c κs = search needs
 
--- src/line.rt:109:1
 returns : tie.Need-returns
 returns c = search (needs, pair-atom)
 
--- src/line.rt:109:1
 returns-2 : tie.Need-returns-2
 returns-2 c = search (needs, pair-bounded)
 
--- src/line.rt:109:1
 returns-3 : tie.Need-returns-3
 returns-3 c = search (needs, pair-other)
 

@@ -12,75 +12,57 @@ use Rattle.line.proofs.text.past.Reads as past-reads
 use Rattle.line.proofs.text.upto.Reads as upto-reads
 use Rattle.line.proofs.word.look_up.Reads as look-up-reads
 
--- src/line.rt:158:9
 find-requires : tie.Need-find-requires
 find-requires c κs = search needs
 
--- src/line.rt:159:21
 upto-requires : tie.Need-upto-requires
 upto-requires c κs = search needs
 
--- src/line.rt:159:9
 look-up-requires : tie.Need-look-up-requires
 look-up-requires c κs = search needs
 
--- src/line.rt:161:9
 alone-requires : tie.Need-alone-requires
 alone-requires c κs = search needs
 
--- src/line.rt:161:9
 returns : tie.Need-returns
 returns c = search (needs, line-alone)
 
--- src/line.rt:163:24
 add-past : tie.Need-add-past
 add-past c = search needs
 
--- src/line.rt:163:9
 past-requires : tie.Need-past-requires
 past-requires c κs = search needs
 
--- src/line.rt:164:9
 find-requires-2 : tie.Need-find-requires-2
 find-requires-2 c κs = search needs
 
--- src/line.rt:166:9
 pair-requires : tie.Need-pair-requires
 pair-requires c κs = search needs
 
--- src/line.rt:166:9
 returns-2 : tie.Need-returns-2
 returns-2 c = search (needs, line-pair)
 
--- src/line.rt:168:27
 add-past-2 : tie.Need-add-past-2
 add-past-2 c = search needs
 
--- src/line.rt:168:9
 past-requires-2 : tie.Need-past-requires-2
 past-requires-2 c κs = search needs
 
--- src/line.rt:169:9
 find-requires-3 : tie.Need-find-requires-3
 find-requires-3 c κs = search needs
 
--- src/line.rt:171:9
 returns-3 : tie.Need-returns-3
 returns-3 c = search (needs, line-many)
 
--- src/line.rt:173:15
 upto-requires-2 : tie.Need-upto-requires-2
 upto-requires-2 c κs = search needs
 
--- src/line.rt:173:36
 add-triple : tie.Need-add-triple
 add-triple c = search needs
 
--- src/line.rt:173:5
 triple-requires : tie.Need-triple-requires
 triple-requires c κs = search needs
 
--- src/line.rt:155:1
 returns-4 : tie.Need-returns-4
 returns-4 c = search (needs, line-triple)
 

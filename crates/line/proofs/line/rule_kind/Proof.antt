@@ -7,19 +7,15 @@ use Rattle.line.proofs.line.rule_kind.Lts as lts
 use Rattle.line.proofs.line.is_label.Reads as is-label-reads
 use Rattle.line.proofs.line.kind.Reads as kind-reads
 
--- src/line.rt:67:8
 is-label-requires : tie.Need-is-label-requires
 is-label-requires c κs = search needs
 
--- src/line.rt:68:9
 kind-requires : tie.Need-kind-requires
 kind-requires c κs = search needs
 
--- src/line.rt:68:9
 returns : tie.Need-returns
 returns c = search (needs, rule-labelled)
 
--- src/line.rt:64:1
 returns-2 : tie.Need-returns-2
 returns-2 c = search (needs, rule-unlabelled)
 

@@ -7,43 +7,33 @@ use Rattle.line.proofs.line.step.Lts as lts
 use Rattle.number.proofs.decimal.Reads as decimal-reads
 use Rattle.number.proofs.hex.Reads as hex-reads
 
--- src/line.rt:123:9
 decimal-requires : tie.Need-decimal-requires
 decimal-requires c κs = search needs
 
--- src/line.rt:124:23
 enum-known-n : tie.Need-enum-known-n
 enum-known-n c = search needs
 
--- src/line.rt:125:9
 enum-told : tie.Need-enum-told
 enum-told c = search needs
 
--- src/line.rt:125:9
 returns : tie.Need-returns
 returns c = search (needs, step-wrong)
 
--- src/line.rt:128:9
 returns-2 : tie.Need-returns-2
 returns-2 c = search (needs, step-large)
 
--- src/line.rt:130:9
 hex-requires : tie.Need-hex-requires
 hex-requires c κs = search needs
 
--- src/line.rt:131:23
 enum-known-m : tie.Need-enum-known-m
 enum-known-m c = search needs
 
--- src/line.rt:132:9
 enum-told-2 : tie.Need-enum-told-2
 enum-told-2 c = search needs
 
--- src/line.rt:132:9
 returns-3 : tie.Need-returns-3
 returns-3 c = search (needs, step-truths)
 
--- src/line.rt:120:1
 returns-4 : tie.Need-returns-4
 returns-4 c = search (needs, step-right)
 

@@ -13,31 +13,24 @@ Inv-loop s c i₀ i = Seeking c s i
 abbrev μ-loop : tie.MeasureT-loop
 μ-loop s c i₀ i = length s - i
 
--- src/text.rt:12:5
 loop-holds : tie.Need-loop-holds Inv-loop μ-loop
 loop-holds c = search (needs, seek-first)
 
--- src/text.rt:13:12
 shared-slice-read-if1 : tie.Need-shared-slice-read-if1 Inv-loop μ-loop
 shared-slice-read-if1 c = search needs
 
--- src/text.rt:14:13
 returns : tie.Need-returns Inv-loop μ-loop
 returns c = search (needs, seek-hit)
 
--- src/text.rt:16:9
 add-i : tie.Need-add-i Inv-loop μ-loop
 add-i c = search needs
 
--- src/text.rt:12:5
 loop-less : tie.Need-loop-less Inv-loop μ-loop
 loop-less c = search needs
 
--- src/text.rt:12:5
 loop-again : tie.Need-loop-again Inv-loop μ-loop
 loop-again c = search (needs, seek-next)
 
--- src/text.rt:8:1
 returns-2 : tie.Need-returns-2 Inv-loop μ-loop
 returns-2 c = search (needs, seek-end)
 

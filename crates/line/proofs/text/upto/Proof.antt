@@ -5,11 +5,9 @@ use Rattle.line.proofs.text.upto.Tie as tie
 use Rattle.line.proofs.text.upto.Reads as reads
 use Rattle.line.proofs.text.upto.Lts as lts
 
--- src/text.rt:43:5
 slice-aggregate-result : tie.Need-slice-aggregate-result
 slice-aggregate-result c = search (needs, part-upto)
 
--- src/text.rt:39:1
 returns : tie.Need-returns
 returns c = search needs
 

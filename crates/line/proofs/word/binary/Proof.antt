@@ -7,59 +7,45 @@ use Rattle.line.proofs.word.binary.Lts as lts
 use Rattle.line.proofs.text.same.Reads as same-reads
 use Rattle.line.proofs.word.other.Reads as other-reads
 
--- src/word.rt:68:16
 slice-aggregate-same : tie.Need-slice-aggregate-same
 slice-aggregate-same c = search needs
 
--- src/word.rt:68:8
 same-requires : tie.Need-same-requires
 same-requires c κs = search needs
 
--- src/word.rt:69:9
 returns : tie.Need-returns
 returns c = search (needs, is-and)
 
--- src/word.rt:71:16
 slice-aggregate-same-2 : tie.Need-slice-aggregate-same-2
 slice-aggregate-same-2 c = search needs
 
--- src/word.rt:71:8
 same-requires-2 : tie.Need-same-requires-2
 same-requires-2 c κs = search needs
 
--- src/word.rt:72:9
 returns-2 : tie.Need-returns-2
 returns-2 c = search (needs, is-or)
 
--- src/word.rt:74:16
 slice-aggregate-same-3 : tie.Need-slice-aggregate-same-3
 slice-aggregate-same-3 c = search needs
 
--- src/word.rt:74:8
 same-requires-3 : tie.Need-same-requires-3
 same-requires-3 c κs = search needs
 
--- src/word.rt:75:9
 returns-3 : tie.Need-returns-3
 returns-3 c = search (needs, is-implies)
 
--- src/word.rt:77:16
 slice-aggregate-same-4 : tie.Need-slice-aggregate-same-4
 slice-aggregate-same-4 c = search needs
 
--- src/word.rt:77:8
 same-requires-4 : tie.Need-same-requires-4
 same-requires-4 c κs = search needs
 
--- src/word.rt:78:9
 returns-4 : tie.Need-returns-4
 returns-4 c = search (needs, is-until)
 
--- src/word.rt:80:5
 other-requires : tie.Need-other-requires
 other-requires c κs = search needs
 
--- src/word.rt:65:1
 returns-5 : tie.Need-returns-5
 returns-5 c = search (needs, past-fromBinary)
 

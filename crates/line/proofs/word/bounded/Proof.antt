@@ -7,35 +7,27 @@ use Rattle.line.proofs.word.bounded.Lts as lts
 use Rattle.line.proofs.text.same.Reads as same-reads
 use Rattle.line.proofs.word.binary.Reads as binary-reads
 
--- src/word.rt:55:16
 slice-aggregate-same : tie.Need-slice-aggregate-same
 slice-aggregate-same c = search needs
 
--- src/word.rt:55:8
 same-requires : tie.Need-same-requires
 same-requires c κs = search needs
 
--- src/word.rt:56:9
 returns : tie.Need-returns
 returns c = search (needs, is-always-for)
 
--- src/word.rt:58:16
 slice-aggregate-same-2 : tie.Need-slice-aggregate-same-2
 slice-aggregate-same-2 c = search needs
 
--- src/word.rt:58:8
 same-requires-2 : tie.Need-same-requires-2
 same-requires-2 c κs = search needs
 
--- src/word.rt:59:9
 returns-2 : tie.Need-returns-2
 returns-2 c = search (needs, is-within)
 
--- src/word.rt:61:5
 binary-requires : tie.Need-binary-requires
 binary-requires c κs = search needs
 
--- src/word.rt:52:1
 returns-3 : tie.Need-returns-3
 returns-3 c = search (needs, past-fromBounded)
 

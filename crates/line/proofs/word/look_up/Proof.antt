@@ -7,23 +7,18 @@ use Rattle.line.proofs.word.look_up.Lts as lts
 use Rattle.line.proofs.text.same.Reads as same-reads
 use Rattle.line.proofs.word.word_of.Reads as word-of-reads
 
--- src/word.rt:20:16
 slice-aggregate-same : tie.Need-slice-aggregate-same
 slice-aggregate-same c = search needs
 
--- src/word.rt:20:8
 same-requires : tie.Need-same-requires
 same-requires c κs = search needs
 
--- src/word.rt:21:9
 returns : tie.Need-returns
 returns c = search (needs, is-step-first)
 
--- src/word.rt:23:5
 word-of-requires : tie.Need-word-of-requires
 word-of-requires c κs = search needs
 
--- src/word.rt:17:1
 returns-2 : tie.Need-returns-2
 returns-2 c = search needs
 

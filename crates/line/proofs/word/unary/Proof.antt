@@ -7,59 +7,45 @@ use Rattle.line.proofs.word.unary.Lts as lts
 use Rattle.line.proofs.text.same.Reads as same-reads
 use Rattle.line.proofs.word.bounded.Reads as bounded-reads
 
--- src/word.rt:36:16
 slice-aggregate-same : tie.Need-slice-aggregate-same
 slice-aggregate-same c = search needs
 
--- src/word.rt:36:8
 same-requires : tie.Need-same-requires
 same-requires c κs = search needs
 
--- src/word.rt:37:9
 returns : tie.Need-returns
 returns c = search (needs, is-not)
 
--- src/word.rt:39:16
 slice-aggregate-same-2 : tie.Need-slice-aggregate-same-2
 slice-aggregate-same-2 c = search needs
 
--- src/word.rt:39:8
 same-requires-2 : tie.Need-same-requires-2
 same-requires-2 c κs = search needs
 
--- src/word.rt:40:9
 returns-2 : tie.Need-returns-2
 returns-2 c = search (needs, is-next)
 
--- src/word.rt:42:16
 slice-aggregate-same-3 : tie.Need-slice-aggregate-same-3
 slice-aggregate-same-3 c = search needs
 
--- src/word.rt:42:8
 same-requires-3 : tie.Need-same-requires-3
 same-requires-3 c κs = search needs
 
--- src/word.rt:43:9
 returns-3 : tie.Need-returns-3
 returns-3 c = search (needs, is-always)
 
--- src/word.rt:45:16
 slice-aggregate-same-4 : tie.Need-slice-aggregate-same-4
 slice-aggregate-same-4 c = search needs
 
--- src/word.rt:45:8
 same-requires-4 : tie.Need-same-requires-4
 same-requires-4 c κs = search needs
 
--- src/word.rt:46:9
 returns-4 : tie.Need-returns-4
 returns-4 c = search (needs, is-eventually)
 
--- src/word.rt:48:5
 bounded-requires : tie.Need-bounded-requires
 bounded-requires c κs = search needs
 
--- src/word.rt:33:1
 returns-5 : tie.Need-returns-5
 returns-5 c = search (needs, past-fromUnary)
 

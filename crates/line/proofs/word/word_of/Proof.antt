@@ -7,47 +7,36 @@ use Rattle.line.proofs.word.word_of.Lts as lts
 use Rattle.line.proofs.text.same.Reads as same-reads
 use Rattle.line.proofs.word.unary.Reads as unary-reads
 
--- src/word.rt:20:16
 slice-aggregate-same : tie.Need-slice-aggregate-same
 slice-aggregate-same c = search needs
 
--- src/word.rt:20:8
 same-requires : tie.Need-same-requires
 same-requires c κs = search needs
 
--- src/word.rt:21:9
 returns : tie.Need-returns
 returns c = search (needs, is-var)
 
--- src/word.rt:23:16
 slice-aggregate-same-2 : tie.Need-slice-aggregate-same-2
 slice-aggregate-same-2 c = search needs
 
--- src/word.rt:23:8
 same-requires-2 : tie.Need-same-requires-2
 same-requires-2 c κs = search needs
 
--- src/word.rt:24:9
 returns-2 : tie.Need-returns-2
 returns-2 c = search (needs, is-in)
 
--- src/word.rt:26:16
 slice-aggregate-same-3 : tie.Need-slice-aggregate-same-3
 slice-aggregate-same-3 c = search needs
 
--- src/word.rt:26:8
 same-requires-3 : tie.Need-same-requires-3
 same-requires-3 c κs = search needs
 
--- src/word.rt:27:9
 returns-3 : tie.Need-returns-3
 returns-3 c = search (needs, is-out)
 
--- src/word.rt:29:5
 unary-requires : tie.Need-unary-requires
 unary-requires c κs = search needs
 
--- src/word.rt:17:1
 returns-4 : tie.Need-returns-4
 returns-4 c = search (needs, past-vocabulary)
 

@@ -6,19 +6,15 @@ use Rattle.lines.proofs.field.put_absent.Reads as reads
 use Rattle.lines.proofs.field.put_absent.Lts as lts
 use Rattle.text.proofs.write.put_byte.Reads as put-byte-reads
 
--- src/field.rt:27:9
 put-byte-requires : tie.Need-put-byte-requires
 put-byte-requires c κs = search needs
 
--- src/field.rt:28:5
 put-byte-requires-2 : tie.Need-put-byte-requires-2
 put-byte-requires-2 c κs = search needs
 
--- src/field.rt:24:1
 same-length : tie.Need-same-length
 same-length c = search needs
 
--- src/field.rt:24:1
 returns : tie.Need-returns
 returns c = search (needs, mark-then)
 

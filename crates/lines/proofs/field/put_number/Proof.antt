@@ -7,19 +7,15 @@ use Rattle.lines.proofs.field.put_number.Lts as lts
 use Rattle.text.proofs.write.put_byte.Reads as put-byte-reads
 use Rattle.text.proofs.write.put_decimal.Reads as put-decimal-reads
 
--- src/field.rt:19:9
 put-decimal-requires : tie.Need-put-decimal-requires
 put-decimal-requires c κs = search needs
 
--- src/field.rt:20:5
 put-byte-requires : tie.Need-put-byte-requires
 put-byte-requires c κs = search needs
 
--- src/field.rt:16:1
 same-length : tie.Need-same-length
 same-length c = search needs
 
--- src/field.rt:16:1
 returns : tie.Need-returns
 returns c = search (needs, mark-then)
 

@@ -7,19 +7,15 @@ use Rattle.lines.proofs.field.put_text.Lts as lts
 use Rattle.text.proofs.write.put_byte.Reads as put-byte-reads
 use Rattle.text.proofs.write.put_bytes.Reads as put-bytes-reads
 
--- src/field.rt:12:9
 put-bytes-requires : tie.Need-put-bytes-requires
 put-bytes-requires c κs = search needs
 
--- src/field.rt:13:5
 put-byte-requires : tie.Need-put-byte-requires
 put-byte-requires c κs = search needs
 
--- src/field.rt:9:1
 same-length : tie.Need-same-length
 same-length c = search needs
 
--- src/field.rt:9:1
 returns : tie.Need-returns
 returns c = search (needs, mark-then)
 

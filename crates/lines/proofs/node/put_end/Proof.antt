@@ -7,39 +7,30 @@ use Rattle.lines.proofs.node.put_end.Lts as lts
 use Rattle.lines.proofs.field.put_number.Reads as put-number-reads
 use Rattle.lines.proofs.field.put_text.Reads as put-text-reads
 
--- src/node.rt:32:19
 enum-known-to : tie.Need-enum-known-to
 enum-known-to c = search needs
 
--- src/node.rt:33:13
 put-number-requires : tie.Need-put-number-requires
 put-number-requires c κs = search needs
 
--- src/node.rt:33:13
 same-length : tie.Need-same-length
 same-length c = search needs
 
--- src/node.rt:33:13
 returns : tie.Need-returns
 returns c = search (needs, end-step)
 
--- src/node.rt:36:29
 enum-told : tie.Need-enum-told
 enum-told c = search needs
 
--- src/node.rt:36:38
 slice-aggregate-put-text : tie.Need-slice-aggregate-put-text
 slice-aggregate-put-text c = search needs
 
--- src/node.rt:36:13
 put-text-requires : tie.Need-put-text-requires
 put-text-requires c κs = search needs
 
--- src/node.rt:36:13
 same-length-2 : tie.Need-same-length-2
 same-length-2 c = search needs
 
--- src/node.rt:36:13
 returns-2 : tie.Need-returns-2
 returns-2 c = search (needs, end-open)
 

@@ -8,43 +8,33 @@ use Rattle.lines.proofs.field.put_text.Reads as put-text-reads
 use Rattle.spelling.proofs.scan.put_signal.Reads as put-signal-reads
 use Rattle.text.proofs.write.put_byte.Reads as put-byte-reads
 
--- src/node.rt:57:29
 enum-told : tie.Need-enum-told
 enum-told c = search needs
 
--- src/node.rt:57:38
 slice-aggregate-put-text : tie.Need-slice-aggregate-put-text
 slice-aggregate-put-text c = search needs
 
--- src/node.rt:57:13
 put-text-requires : tie.Need-put-text-requires
 put-text-requires c κs = search needs
 
--- src/node.rt:57:13
 same-length : tie.Need-same-length
 same-length c = search needs
 
--- src/node.rt:57:13
 returns : tie.Need-returns
 returns c = search (needs, expr-true)
 
--- src/node.rt:59:24
 enum-known-e : tie.Need-enum-known-e
 enum-known-e c = search needs
 
--- src/node.rt:60:17
 put-signal-requires : tie.Need-put-signal-requires
 put-signal-requires c κs = search (needs, expr-ready)
 
--- src/node.rt:61:13
 put-byte-requires : tie.Need-put-byte-requires
 put-byte-requires c κs = search needs
 
--- src/node.rt:61:13
 same-length-2 : tie.Need-same-length-2
 same-length-2 c = search needs
 
--- src/node.rt:61:13
 returns-2 : tie.Need-returns-2
 returns-2 c = search (needs, expr-at)
 

@@ -8,31 +8,24 @@ use Rattle.lines.proofs.field.put_number.Reads as put-number-reads
 use Rattle.lines.proofs.field.put_text.Reads as put-text-reads
 use Rattle.text.proofs.write.put_byte.Reads as put-byte-reads
 
--- src/node.rt:21:31
 slice-aggregate-put-text : tie.Need-slice-aggregate-put-text
 slice-aggregate-put-text c = search needs
 
--- src/node.rt:21:9
 put-text-requires : tie.Need-put-text-requires
 put-text-requires c κs = search needs
 
--- src/node.rt:22:9
 put-number-requires : tie.Need-put-number-requires
 put-number-requires c κs = search needs
 
--- src/node.rt:23:9
 put-byte-requires : tie.Need-put-byte-requires
 put-byte-requires c κs = search needs
 
--- src/node.rt:24:5
 put-byte-requires-2 : tie.Need-put-byte-requires-2
 put-byte-requires-2 c κs = search needs
 
--- src/node.rt:18:1
 same-length : tie.Need-same-length
 same-length c = search needs
 
--- src/node.rt:18:1
 returns : tie.Need-returns
 returns c = search (needs, head-wrote)
 

@@ -11,147 +11,111 @@ use Rattle.lines.proofs.node.put_expr.Reads as put-expr-reads
 use Rattle.lines.proofs.node.put_head.Reads as put-head-reads
 use Rattle.lines.proofs.node.put_range.Reads as put-range-reads
 
--- src/node.rt:72:31
 enum-known-node : tie.Need-enum-known-node
 enum-known-node c = search needs
 
--- src/node.rt:73:17
 put-head-requires : tie.Need-put-head-requires
 put-head-requires c κs = search needs
 
--- src/node.rt:74:17
 put-absent-requires : tie.Need-put-absent-requires
 put-absent-requires c κs = search needs
 
--- src/node.rt:75:17
 put-range-requires : tie.Need-put-range-requires
 put-range-requires c κs = search needs
 
--- src/node.rt:76:17
 put-expr-requires : tie.Need-put-expr-requires
 put-expr-requires c κs = search (needs, ready-range)
 
--- src/node.rt:77:13
 put-absent-requires-2 : tie.Need-put-absent-requires-2
 put-absent-requires-2 c κs = search needs
 
--- src/node.rt:77:13
 same-length : tie.Need-same-length
 same-length c = search needs
 
--- src/node.rt:77:13
 returns : tie.Need-returns
 returns c = search (needs, node-range)
 
--- src/node.rt:80:13
 enum-known-node-2 : tie.Need-enum-known-node-2
 enum-known-node-2 c = search needs
 
--- src/node.rt:84:17
 put-head-requires-2 : tie.Need-put-head-requires-2
 put-head-requires-2 c κs = search needs
 
--- src/node.rt:85:17
 put-absent-requires-3 : tie.Need-put-absent-requires-3
 put-absent-requires-3 c κs = search needs
 
--- src/node.rt:86:17
 put-range-requires-2 : tie.Need-put-range-requires-2
 put-range-requires-2 c κs = search needs
 
--- src/node.rt:87:17
 put-expr-requires-2 : tie.Need-put-expr-requires-2
 put-expr-requires-2 c κs = search (needs, ready-delayed)
 
--- src/node.rt:88:13
 put-expr-requires-3 : tie.Need-put-expr-requires-3
 put-expr-requires-3 c κs = search (needs, ready-delayed-2)
 
--- src/node.rt:88:13
 same-length-2 : tie.Need-same-length-2
 same-length-2 c = search needs
 
--- src/node.rt:88:13
 returns-2 : tie.Need-returns-2
 returns-2 c = search (needs, node-delayed)
 
--- src/node.rt:91:13
 enum-known-node-3 : tie.Need-enum-known-node-3
 enum-known-node-3 c = search needs
 
--- src/node.rt:96:17
 put-head-requires-3 : tie.Need-put-head-requires-3
 put-head-requires-3 c κs = search needs
 
--- src/node.rt:97:17
 put-number-requires : tie.Need-put-number-requires
 put-number-requires c κs = search needs
 
--- src/node.rt:98:17
 put-range-requires-3 : tie.Need-put-range-requires-3
 put-range-requires-3 c κs = search needs
 
--- src/node.rt:99:17
 put-expr-requires-4 : tie.Need-put-expr-requires-4
 put-expr-requires-4 c κs = search (needs, ready-owed)
 
--- src/node.rt:100:13
 put-expr-requires-5 : tie.Need-put-expr-requires-5
 put-expr-requires-5 c κs = search (needs, ready-owed-2)
 
--- src/node.rt:100:13
 same-length-3 : tie.Need-same-length-3
 same-length-3 c = search needs
 
--- src/node.rt:100:13
 returns-3 : tie.Need-returns-3
 returns-3 c = search (needs, node-owed)
 
--- src/node.rt:103:30
 enum-told : tie.Need-enum-told
 enum-told c = search needs
 
--- src/node.rt:103:17
 put-head-requires-4 : tie.Need-put-head-requires-4
 put-head-requires-4 c κs = search needs
 
--- src/node.rt:104:37
 slice-aggregate-put-text : tie.Need-slice-aggregate-put-text
 slice-aggregate-put-text c = search needs
 
--- src/node.rt:104:13
 put-text-requires : tie.Need-put-text-requires
 put-text-requires c κs = search needs
 
--- src/node.rt:104:13
 same-length-4 : tie.Need-same-length-4
 same-length-4 c = search needs
 
--- src/node.rt:104:13
 returns-4 : tie.Need-returns-4
 returns-4 c = search (needs, node-and)
 
--- src/node.rt:107:30
 enum-told-2 : tie.Need-enum-told-2
 enum-told-2 c = search needs
 
--- src/node.rt:107:17
 put-head-requires-5 : tie.Need-put-head-requires-5
 put-head-requires-5 c κs = search needs
 
--- src/node.rt:108:37
 slice-aggregate-put-text-2 : tie.Need-slice-aggregate-put-text-2
 slice-aggregate-put-text-2 c = search needs
 
--- src/node.rt:108:13
 put-text-requires-2 : tie.Need-put-text-requires-2
 put-text-requires-2 c κs = search needs
 
--- src/node.rt:108:13
 same-length-5 : tie.Need-same-length-5
 same-length-5 c = search needs
 
--- src/node.rt:108:13
 returns-5 : tie.Need-returns-5
 returns-5 c = search (needs, node-or)
 

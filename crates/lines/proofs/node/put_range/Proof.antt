@@ -7,19 +7,15 @@ use Rattle.lines.proofs.node.put_range.Lts as lts
 use Rattle.lines.proofs.field.put_number.Reads as put-number-reads
 use Rattle.lines.proofs.node.put_end.Reads as put-end-reads
 
--- src/node.rt:46:9
 put-number-requires : tie.Need-put-number-requires
 put-number-requires c κs = search needs
 
--- src/node.rt:47:5
 put-end-requires : tie.Need-put-end-requires
 put-end-requires c κs = search needs
 
--- src/node.rt:41:1
 same-length : tie.Need-same-length
 same-length c = search needs
 
--- src/node.rt:41:1
 returns : tie.Need-returns
 returns c = search (needs, range-wrote)
 

@@ -7,35 +7,27 @@ use Rattle.lines.proofs.rule.put_alike.Lts as lts
 use Rattle.lines.proofs.field.put_absent.Reads as put-absent-reads
 use Rattle.lines.proofs.field.put_number.Reads as put-number-reads
 
--- src/rule.rt:32:19
 enum-known-alike : tie.Need-enum-known-alike
 enum-known-alike c = search needs
 
--- src/rule.rt:33:13
 put-number-requires : tie.Need-put-number-requires
 put-number-requires c κs = search needs
 
--- src/rule.rt:33:13
 same-length : tie.Need-same-length
 same-length c = search needs
 
--- src/rule.rt:33:13
 returns : tie.Need-returns
 returns c = search (needs, alike-to)
 
--- src/rule.rt:36:31
 enum-told : tie.Need-enum-told
 enum-told c = search needs
 
--- src/rule.rt:36:13
 put-absent-requires : tie.Need-put-absent-requires
 put-absent-requires c κs = search needs
 
--- src/rule.rt:36:13
 same-length-2 : tie.Need-same-length-2
 same-length-2 c = search needs
 
--- src/rule.rt:36:13
 returns-2 : tie.Need-returns-2
 returns-2 c = search (needs, alike-none)
 

@@ -8,59 +8,45 @@ use Rattle.lines.proofs.field.put_number.Reads as put-number-reads
 use Rattle.lines.proofs.field.put_text.Reads as put-text-reads
 use Rattle.lines.proofs.rule.put_alike.Reads as put-alike-reads
 
--- src/rule.rt:46:31
 enum-known-c : tie.Need-enum-known-c
 enum-known-c c = search needs
 
--- src/rule.rt:47:39
 slice-aggregate-put-text : tie.Need-slice-aggregate-put-text
 slice-aggregate-put-text c = search needs
 
--- src/rule.rt:47:17
 put-text-requires : tie.Need-put-text-requires
 put-text-requires c κs = search needs
 
--- src/rule.rt:48:17
 put-number-requires : tie.Need-put-number-requires
 put-number-requires c κs = search needs
 
--- src/rule.rt:49:17
 put-number-requires-2 : tie.Need-put-number-requires-2
 put-number-requires-2 c κs = search needs
 
--- src/rule.rt:50:13
 put-alike-requires : tie.Need-put-alike-requires
 put-alike-requires c κs = search needs
 
--- src/rule.rt:50:13
 same-length : tie.Need-same-length
 same-length c = search needs
 
--- src/rule.rt:50:13
 returns : tie.Need-returns
 returns c = search (needs, compiled-line)
 
--- src/rule.rt:52:28
 enum-known-c-2 : tie.Need-enum-known-c-2
 enum-known-c-2 c = search needs
 
--- src/rule.rt:53:17
 put-number-requires-3 : tie.Need-put-number-requires-3
 put-number-requires-3 c κs = search needs
 
--- src/rule.rt:54:37
 slice-aggregate-put-text-2 : tie.Need-slice-aggregate-put-text-2
 slice-aggregate-put-text-2 c = search needs
 
--- src/rule.rt:54:13
 put-text-requires-2 : tie.Need-put-text-requires-2
 put-text-requires-2 c κs = search needs
 
--- src/rule.rt:54:13
 same-length-2 : tie.Need-same-length-2
 same-length-2 c = search needs
 
--- src/rule.rt:54:13
 returns-2 : tie.Need-returns-2
 returns-2 c = search (needs, refused-line)
 

@@ -6,35 +6,27 @@ use Rattle.lines.proofs.rule.put_kind.Reads as reads
 use Rattle.lines.proofs.rule.put_kind.Lts as lts
 use Rattle.lines.proofs.field.put_text.Reads as put-text-reads
 
--- src/rule.rt:64:34
 slice-aggregate-put-text : tie.Need-slice-aggregate-put-text
 slice-aggregate-put-text c = search needs
 
--- src/rule.rt:64:9
 put-text-requires : tie.Need-put-text-requires
 put-text-requires c κs = search needs
 
--- src/rule.rt:64:9
 same-length : tie.Need-same-length
 same-length c = search needs
 
--- src/rule.rt:64:9
 returns : tie.Need-returns
 returns c = search (needs, kind-property)
 
--- src/rule.rt:66:23
 slice-aggregate-put-text-2 : tie.Need-slice-aggregate-put-text-2
 slice-aggregate-put-text-2 c = search needs
 
--- src/rule.rt:66:5
 put-text-requires-2 : tie.Need-put-text-requires-2
 put-text-requires-2 c κs = search needs
 
--- src/rule.rt:60:1
 same-length-2 : tie.Need-same-length-2
 same-length-2 c = search needs
 
--- src/rule.rt:60:1
 returns-2 : tie.Need-returns-2
 returns-2 c = search (needs, kind-assumption)
 

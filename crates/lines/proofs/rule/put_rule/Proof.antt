@@ -8,23 +8,18 @@ use Rattle.lines.proofs.rule.put_compiling.Reads as put-compiling-reads
 use Rattle.lines.proofs.rule.put_kind.Reads as put-kind-reads
 use Rattle.lines.proofs.rule.put_rule_head.Reads as put-rule-head-reads
 
--- src/rule.rt:82:9
 put-rule-head-requires : tie.Need-put-rule-head-requires
 put-rule-head-requires c κs = search needs
 
--- src/rule.rt:83:9
 put-kind-requires : tie.Need-put-kind-requires
 put-kind-requires c κs = search needs
 
--- src/rule.rt:84:5
 put-compiling-requires : tie.Need-put-compiling-requires
 put-compiling-requires c κs = search needs
 
--- src/rule.rt:79:1
 same-length : tie.Need-same-length
 same-length c = search needs
 
--- src/rule.rt:79:1
 returns : tie.Need-returns
 returns c = search (needs, rule-line)
 

@@ -7,27 +7,21 @@ use Rattle.lines.proofs.rule.put_rule_head.Lts as lts
 use Rattle.lines.proofs.field.put_number.Reads as put-number-reads
 use Rattle.lines.proofs.field.put_text.Reads as put-text-reads
 
--- src/rule.rt:73:31
 slice-aggregate-put-text : tie.Need-slice-aggregate-put-text
 slice-aggregate-put-text c = search needs
 
--- src/rule.rt:73:9
 put-text-requires : tie.Need-put-text-requires
 put-text-requires c κs = search needs
 
--- src/rule.rt:74:9
 put-number-requires : tie.Need-put-number-requires
 put-number-requires c κs = search needs
 
--- src/rule.rt:75:5
 put-text-requires-2 : tie.Need-put-text-requires-2
 put-text-requires-2 c κs = search needs
 
--- src/rule.rt:70:1
 same-length : tie.Need-same-length
 same-length c = search needs
 
--- src/rule.rt:70:1
 returns : tie.Need-returns
 returns c = search (needs, rule-head)
 

@@ -8,55 +8,42 @@ use Rattle.listing.proofs.head.put_rules.Reads as put-rules-reads
 use Rattle.rules.proofs.compile.compile_rules.Reads as compile-rules-reads
 use Rattle.rules.proofs.place.place_rules.Reads as place-rules-reads
 
--- src/head.rt:114:5
 compile-rules-requires : tie.Need-compile-rules-requires
 compile-rules-requires c κs = search needs
 
--- src/head.rt:115:62
 slice-aggregate-place-rules : tie.Need-slice-aggregate-place-rules
 slice-aggregate-place-rules c = search needs
 
--- src/head.rt:115:75
 slice-aggregate-place-rules-2 : tie.Need-slice-aggregate-place-rules-2
 slice-aggregate-place-rules-2 c = search needs
 
--- src/head.rt:115:5
 place-rules-requires : tie.Need-place-rules-requires
 place-rules-requires c κs = search (needs, placeable)
 
--- src/head.rt:117:100
 slice-aggregate-put-rules : tie.Need-slice-aggregate-put-rules
 slice-aggregate-put-rules c = search needs
 
--- src/head.rt:117:109
 slice-aggregate-put-rules-2 : tie.Need-slice-aggregate-put-rules-2
 slice-aggregate-put-rules-2 c = search needs
 
--- src/head.rt:116:5
 put-rules-requires : tie.Need-put-rules-requires
 put-rules-requires c κs = search (needs, readied, c .before .before .before .before .before .before .before .before .before .before .before .before .before .before .before .before .before .before .before .before .before .before .before .before .compile-rules .ensures, c .before .before .before .before .before .before .before .before .before .place-rules .ensures, c .before .before .before .before .before .before .before .before .before .before .before .before .before .before .before .before .before .before .before .before .before .before .before .before .before .before .before .before .before .before .before .before .before .before .before .before .before .before .before .before .before .pre .0)
 
--- src/head.rt:94:1
 same-length : tie.Need-same-length
 same-length c = search needs
 
--- src/head.rt:94:1
 same-length-2 : tie.Need-same-length-2
 same-length-2 c = search needs
 
--- src/head.rt:94:1
 same-length-3 : tie.Need-same-length-3
 same-length-3 c = search needs
 
--- src/head.rt:94:1
 same-length-4 : tie.Need-same-length-4
 same-length-4 c = search needs
 
--- src/head.rt:94:1
 same-length-5 : tie.Need-same-length-5
 same-length-5 c = search needs
 
--- src/head.rt:94:1
 returns : tie.Need-returns
 returns c = head-listed _ _ _ _ _ _ _ _ _ _ _ _ _ _ _ _ (c .before .before .before .before .before .before .before .before .before .before .before .before .before .before .before .before .before .before .before .before .before .before .before .before .before .before .before .compile-rules .ensures) (c .before .before .before .before .before .before .before .before .before .before .before .before .place-rules .ensures) (c .before .before .put-rules .ensures)
 

@@ -8,71 +8,54 @@ use Rattle.line.proofs.text.past.Reads as past-reads
 use Rattle.line.proofs.text.upto.Reads as upto-reads
 use Rattle.rule_lines.proofs.section.put_section.Reads as put-section-reads
 
--- src/head.rt:33:29
 mul-past : tie.Need-mul-past
 mul-past c = search needs
 
--- src/head.rt:33:9
 past-requires : tie.Need-past-requires
 past-requires c κs = search needs
 
--- src/head.rt:34:28
 mul-upto : tie.Need-mul-upto
 mul-upto c = search needs
 
--- src/head.rt:34:28
 shared-slice-read-upto : tie.Need-shared-slice-read-upto
 shared-slice-read-upto c = search needs
 
--- src/head.rt:34:9
 upto-requires : tie.Need-upto-requires
 upto-requires c κs = search (needs, label-room)
 
--- src/head.rt:43:9
 shared-slice-read-put-section : tie.Need-shared-slice-read-put-section
 shared-slice-read-put-section c = search needs
 
--- src/head.rt:44:9
 mul-put-section : tie.Need-mul-put-section
 mul-put-section c = search needs
 
--- src/head.rt:44:9
 shared-slice-read-put-section-2 : tie.Need-shared-slice-read-put-section-2
 shared-slice-read-put-section-2 c = search needs
 
--- src/head.rt:45:9
 mul-put-section-2 : tie.Need-mul-put-section-2
 mul-put-section-2 c = search needs
 
--- src/head.rt:45:9
 shared-slice-read-put-section-3 : tie.Need-shared-slice-read-put-section-3
 shared-slice-read-put-section-3 c = search needs
 
--- src/head.rt:46:9
 mul-put-section-3 : tie.Need-mul-put-section-3
 mul-put-section-3 c = search needs
 
--- src/head.rt:46:9
 shared-slice-read-put-section-4 : tie.Need-shared-slice-read-put-section-4
 shared-slice-read-put-section-4 c = search needs
 
--- src/head.rt:47:9
 mul-put-section-4 : tie.Need-mul-put-section-4
 mul-put-section-4 c = search needs
 
--- src/head.rt:47:9
 shared-slice-read-put-section-5 : tie.Need-shared-slice-read-put-section-5
 shared-slice-read-put-section-5 c = search needs
 
--- src/head.rt:35:5
 put-section-requires : tie.Need-put-section-requires
 put-section-requires c κs = search (needs, section-ready)
 
--- src/head.rt:10:1
 same-length : tie.Need-same-length
 same-length c = search needs
 
--- src/head.rt:10:1
 returns : tie.Need-returns
 returns c = search (needs, section-listed)
 

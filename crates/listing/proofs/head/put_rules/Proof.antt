@@ -20,36 +20,28 @@ abbrev μ-loop : tie.MeasureT-loop
 μ-loop out₀ at ops nums labels lens kinds firsts counts nodes nfirsts ncounts refusals starts bits n place₀ r₀ out place r =
     n - r
 
--- src/head.rt:80:5
 loop-holds : tie.Need-loop-holds Inv-loop μ-loop
 loop-holds c = search (needs, headed-first)
 
--- src/head.rt:81:13
 compiling-at-requires : tie.Need-compiling-at-requires Inv-loop μ-loop
 compiling-at-requires c κs = search (needs, told-ready)
 
--- src/head.rt:84:9
 put-rule-at-requires : tie.Need-put-rule-at-requires Inv-loop μ-loop
 put-rule-at-requires c κs = search (needs, rule-asked)
 
--- src/head.rt:88:9
 add-r : tie.Need-add-r Inv-loop μ-loop
 add-r c = omega (arith, c .before .before .before .before .before .loop-test .taken, c .before .before .before .before .before .before .before .before .before .before .before .before .before .before .before .before .before .before .before .before .before .pre .is .held .few)
 
--- src/head.rt:80:5
 loop-less : tie.Need-loop-less Inv-loop μ-loop
 loop-less c = search needs
 
--- src/head.rt:80:5
 loop-again : tie.Need-loop-again Inv-loop μ-loop
 loop-again c =
     (headed-next _ _ _ _ _ _ _ _ _ _ _ _ _ _ _ _ _ _ _ (c .before .before .before .before .before .before .loop .inv .0) (c .before .before .before .before .before .loop-test .taken) (c .before .before .before .before .compiling-at .ensures) (c .before .before .put-rule-at .ensures), c .before .before .put-rule-at .kept .0 ∙ c .before .before .before .before .before .before .loop .inv .1)
 
--- src/head.rt:57:1
 same-length : tie.Need-same-length Inv-loop μ-loop
 same-length c = search needs
 
--- src/head.rt:57:1
 returns : tie.Need-returns Inv-loop μ-loop
 returns c = search (needs, headed-all)
 

@@ -8,19 +8,15 @@ use Rattle.listing.proofs.tail.put_tail.Lts as lts
 use Rattle.report_lines.proofs.put_end.Reads as put-end-reads
 use Rattle.stepped_lines.proofs.report_steps.Reads as report-steps-reads
 
--- src/tail.rt:26:9
 report-steps-requires : tie.Need-report-steps-requires
 report-steps-requires c κs = search (needs, steps-due)
 
--- src/tail.rt:29:5
 put-end-requires : tie.Need-put-end-requires
 put-end-requires c κs = search needs
 
--- src/tail.rt:8:1
 same-length : tie.Need-same-length
 same-length c = search needs
 
--- src/tail.rt:8:1
 returns : tie.Need-returns
 returns c = search (needs, tail-listed)
 

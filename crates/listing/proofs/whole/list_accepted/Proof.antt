@@ -7,51 +7,39 @@ use Rattle.listing.proofs.whole.list_accepted.Lts as lts
 use Rattle.listing.proofs.head.put_head.Reads as put-head-reads
 use Rattle.listing.proofs.tail.put_tail.Reads as put-tail-reads
 
--- src/whole.rt:50:9
 slice-aggregate-put-head : tie.Need-slice-aggregate-put-head
 slice-aggregate-put-head c = search needs
 
--- src/whole.rt:51:9
 slice-aggregate-put-head-2 : tie.Need-slice-aggregate-put-head-2
 slice-aggregate-put-head-2 c = search needs
 
--- src/whole.rt:52:9
 slice-aggregate-put-head-3 : tie.Need-slice-aggregate-put-head-3
 slice-aggregate-put-head-3 c = search needs
 
--- src/whole.rt:53:9
 slice-aggregate-put-head-4 : tie.Need-slice-aggregate-put-head-4
 slice-aggregate-put-head-4 c = search needs
 
--- src/whole.rt:40:9
 put-head-requires : tie.Need-put-head-requires
 put-head-requires c κs = search (needs, known)
 
--- src/whole.rt:56:48
 slice-aggregate-put-tail : tie.Need-slice-aggregate-put-tail
 slice-aggregate-put-tail c = search needs
 
--- src/whole.rt:56:56
 slice-aggregate-put-tail-2 : tie.Need-slice-aggregate-put-tail-2
 slice-aggregate-put-tail-2 c = search needs
 
--- src/whole.rt:56:66
 slice-aggregate-put-tail-3 : tie.Need-slice-aggregate-put-tail-3
 slice-aggregate-put-tail-3 c = search needs
 
--- src/whole.rt:56:76
 slice-aggregate-put-tail-4 : tie.Need-slice-aggregate-put-tail-4
 slice-aggregate-put-tail-4 c = search needs
 
--- src/whole.rt:55:5
 put-tail-requires : tie.Need-put-tail-requires
 put-tail-requires c κs = search (needs, compiled, c .before .before .before .before .before .before .before .before .before .before .before .put-head .ensures, c .before .before .before .before .before .before .before .before .before .before .before .before .before .before .before .before .before .before .before .before .before .before .before .before .before .before .pre)
 
--- src/whole.rt:20:1
 same-length : tie.Need-same-length
 same-length c = search needs
 
--- src/whole.rt:20:1
 returns : tie.Need-returns
 returns c = search (needs, book-listed, c .before .before .before .before .before .before .before .before .before .before .before .before .before .before .put-head .ensures, c .before .before .put-tail .ensures, c .before .before .before .before .before .before .before .before .before .before .before .before .before .before .before .before .before .before .before .before .before .before .before .before .before .before .before .before .before .pre)
 

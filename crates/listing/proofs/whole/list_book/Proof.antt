@@ -6,19 +6,15 @@ use Rattle.listing.proofs.whole.list_book.Reads as reads
 use Rattle.listing.proofs.whole.list_book.Lts as lts
 use Rattle.listing.proofs.whole.list_text.Reads as list-text-reads
 
--- src/whole.rt:103:9
 returns : tie.Need-returns
 returns c = search (needs, list-short)
 
--- src/whole.rt:105:9
 list-text-requires : tie.Need-list-text-requires
 list-text-requires c κs = search needs
 
--- src/whole.rt:98:1
 same-length : tie.Need-same-length
 same-length c = search needs
 
--- src/whole.rt:98:1
 returns-2 : tie.Need-returns-2
 returns-2 c = search (needs, listed, listed-within)
 

@@ -8,99 +8,75 @@ use Rattle.listing.proofs.whole.list_accepted.Reads as list-accepted-re
 use Rattle.reader.proofs.read.read_book.Reads as read-book-reads
 use Rattle.report_lines.proofs.put_refused.Reads as put-refused-reads
 
--- src/whole.rt:73:9
 slice-aggregate-read-book : tie.Need-slice-aggregate-read-book
 slice-aggregate-read-book c = search needs
 
--- src/whole.rt:74:9
 slice-aggregate-read-book-2 : tie.Need-slice-aggregate-read-book-2
 slice-aggregate-read-book-2 c = search needs
 
--- src/whole.rt:75:9
 slice-aggregate-read-book-3 : tie.Need-slice-aggregate-read-book-3
 slice-aggregate-read-book-3 c = search needs
 
--- src/whole.rt:76:9
 slice-aggregate-read-book-4 : tie.Need-slice-aggregate-read-book-4
 slice-aggregate-read-book-4 c = search needs
 
--- src/whole.rt:77:9
 slice-aggregate-read-book-5 : tie.Need-slice-aggregate-read-book-5
 slice-aggregate-read-book-5 c = search needs
 
--- src/whole.rt:78:9
 slice-aggregate-read-book-6 : tie.Need-slice-aggregate-read-book-6
 slice-aggregate-read-book-6 c = search needs
 
--- src/whole.rt:79:9
 slice-aggregate-read-book-7 : tie.Need-slice-aggregate-read-book-7
 slice-aggregate-read-book-7 c = search needs
 
--- src/whole.rt:71:9
 read-book-requires : tie.Need-read-book-requires
 read-book-requires c κs = search needs
 
--- src/whole.rt:82:27
 enum-known-answer : tie.Need-enum-known-answer
 enum-known-answer c = search needs
 
--- src/whole.rt:83:40
 cast-put-refused : tie.Need-cast-put-refused
 cast-put-refused c = search needs
 
--- src/whole.rt:83:13
 put-refused-requires : tie.Need-put-refused-requires
 put-refused-requires c κs = search needs
 
--- src/whole.rt:83:13
 same-length : tie.Need-same-length
 same-length c = search needs
 
--- src/whole.rt:83:13
 returns : tie.Need-returns
 returns c = search (needs, refused-wrote)
 
--- src/whole.rt:86:13
 enum-known-answer-2 : tie.Need-enum-known-answer-2
 enum-known-answer-2 c = search needs
 
--- src/whole.rt:91:33
 slice-aggregate-list-accepted : tie.Need-slice-aggregate-list-accepted
 slice-aggregate-list-accepted c = search needs
 
--- src/whole.rt:91:39
 slice-aggregate-list-accepted-2 : tie.Need-slice-aggregate-list-accepted-2
 slice-aggregate-list-accepted-2 c = search needs
 
--- src/whole.rt:91:46
 slice-aggregate-list-accepted-3 : tie.Need-slice-aggregate-list-accepted-3
 slice-aggregate-list-accepted-3 c = search needs
 
--- src/whole.rt:91:55
 slice-aggregate-list-accepted-4 : tie.Need-slice-aggregate-list-accepted-4
 slice-aggregate-list-accepted-4 c = search needs
 
--- src/whole.rt:91:62
 slice-aggregate-list-accepted-5 : tie.Need-slice-aggregate-list-accepted-5
 slice-aggregate-list-accepted-5 c = search needs
 
--- src/whole.rt:91:70
 slice-aggregate-list-accepted-6 : tie.Need-slice-aggregate-list-accepted-6
 slice-aggregate-list-accepted-6 c = search needs
 
--- src/whole.rt:91:79
 slice-aggregate-list-accepted-7 : tie.Need-slice-aggregate-list-accepted-7
 slice-aggregate-list-accepted-7 c = search needs
 
--- src/whole.rt:90:13
 list-accepted-requires : tie.Need-list-accepted-requires
 list-accepted-requires c κs = search (needs, read-handed, c .before .before .before .before .before .before .before .before .before .before .before .before .before .before .before .before .before .before .read-book .ensures)
 
--- src/whole.rt:90:13
 same-length-2 : tie.Need-same-length-2
 same-length-2 c = search needs
 
--- src/whole.rt:90:13
 returns-2 : tie.Need-returns-2
 returns-2 c = search needs
 

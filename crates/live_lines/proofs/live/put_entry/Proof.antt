@@ -10,98 +10,75 @@ use Rattle.spelling.proofs.scan.put_word.Reads as put-word-reads
 use Rattle.text.proofs.write.put_byte.Reads as put-byte-reads
 use Rattle.text.proofs.write.put_decimal.Reads as put-decimal-reads
 
--- src/live.rt:18:13
 put-byte-requires : tie.Need-put-byte-requires
 put-byte-requires c κs = search needs
 
--- src/live.rt:19:37
 shared-slice-read-put-word : tie.Need-shared-slice-read-put-word
 shared-slice-read-put-word c = search (needs, leaf-in-ops)
 
--- src/live.rt:19:45
 mul-put-word : tie.Need-mul-put-word
 mul-put-word c =
     let s = c .before .before .before .before .before .before .before .before .before .before in
     let h : s .args .kind < 1 = omega arith in
     omega (arith, s .pre .in-nums h, s .good .1 .1 .1 .0 .1)
 
--- src/live.rt:19:45
 shared-slice-read-put-word-2 : tie.Need-shared-slice-read-put-word-2
 shared-slice-read-put-word-2 c = search (needs, leaf-in-nums)
 
--- src/live.rt:19:9
 put-word-requires : tie.Need-put-word-requires
 put-word-requires c κs = search needs
 
--- src/live.rt:19:9
 same-length : tie.Need-same-length
 same-length c = search needs
 
--- src/live.rt:19:9
 returns : tie.Need-returns
 returns c = search (needs, entry-safety)
 
--- src/live.rt:22:13
 put-byte-requires-2 : tie.Need-put-byte-requires-2
 put-byte-requires-2 c κs = search needs
 
--- src/live.rt:23:9
 put-decimal-requires : tie.Need-put-decimal-requires
 put-decimal-requires c κs = search needs
 
--- src/live.rt:23:9
 same-length-2 : tie.Need-same-length-2
 same-length-2 c = search needs
 
--- src/live.rt:23:9
 returns-2 : tie.Need-returns-2
 returns-2 c = search (needs, entry-owed)
 
--- src/live.rt:26:9
 put-byte-requires-3 : tie.Need-put-byte-requires-3
 put-byte-requires-3 c κs = search needs
 
--- src/live.rt:26:9
 same-length-3 : tie.Need-same-length-3
 same-length-3 c = search needs
 
--- src/live.rt:26:9
 returns-3 : tie.Need-returns-3
 returns-3 c = search (needs, entry-not)
 
--- src/live.rt:29:9
 put-byte-requires-4 : tie.Need-put-byte-requires-4
 put-byte-requires-4 c κs = search needs
 
--- src/live.rt:29:9
 same-length-4 : tie.Need-same-length-4
 same-length-4 c = search needs
 
--- src/live.rt:29:9
 returns-4 : tie.Need-returns-4
 returns-4 c = search (needs, entry-and)
 
--- src/live.rt:32:9
 put-byte-requires-5 : tie.Need-put-byte-requires-5
 put-byte-requires-5 c κs = search needs
 
--- src/live.rt:32:9
 same-length-5 : tie.Need-same-length-5
 same-length-5 c = search needs
 
--- src/live.rt:32:9
 returns-5 : tie.Need-returns-5
 returns-5 c = search (needs, entry-or)
 
--- src/live.rt:34:5
 put-byte-requires-6 : tie.Need-put-byte-requires-6
 put-byte-requires-6 c κs = search needs
 
--- src/live.rt:12:1
 same-length-6 : tie.Need-same-length-6
 same-length-6 c = search needs
 
--- src/live.rt:12:1
 returns-6 : tie.Need-returns-6
 returns-6 c = search (needs, entry-implies)
 

@@ -17,59 +17,45 @@ Inv-loop out₀ at ops nums skeleton n place₀ k₀ out place k =
 abbrev μ-loop : tie.MeasureT-loop
 μ-loop out₀ at ops nums skeleton n place₀ k₀ out place k = n - k
 
--- src/live.rt:44:5
 loop-holds : tie.Need-loop-holds Inv-loop μ-loop
 loop-holds c = search (needs, entered-first)
 
--- src/live.rt:45:59
 mul-put-entry : tie.Need-mul-put-entry Inv-loop μ-loop
 mul-put-entry c = search needs
 
--- src/live.rt:45:50
 mul-put-entry-2 : tie.Need-mul-put-entry-2 Inv-loop μ-loop
 mul-put-entry-2 c = search needs
 
--- src/live.rt:45:50
 shared-slice-read-put-entry : tie.Need-shared-slice-read-put-entry Inv-loop μ-loop
 shared-slice-read-put-entry c = search (needs, entry-room)
 
--- src/live.rt:45:76
 mul-put-entry-3 : tie.Need-mul-put-entry-3 Inv-loop μ-loop
 mul-put-entry-3 c = search needs
 
--- src/live.rt:45:76
 add-put-entry : tie.Need-add-put-entry Inv-loop μ-loop
 add-put-entry c = search needs
 
--- src/live.rt:45:67
 mul-put-entry-4 : tie.Need-mul-put-entry-4 Inv-loop μ-loop
 mul-put-entry-4 c = search needs
 
--- src/live.rt:45:67
 shared-slice-read-put-entry-2 : tie.Need-shared-slice-read-put-entry-2 Inv-loop μ-loop
 shared-slice-read-put-entry-2 c = search (needs, entry-room-2)
 
--- src/live.rt:45:9
 put-entry-requires : tie.Need-put-entry-requires Inv-loop μ-loop
 put-entry-requires c κs = search (needs, entry-ready)
 
--- src/live.rt:46:9
 add-k : tie.Need-add-k Inv-loop μ-loop
 add-k c = search needs
 
--- src/live.rt:44:5
 loop-less : tie.Need-loop-less Inv-loop μ-loop
 loop-less c = search needs
 
--- src/live.rt:44:5
 loop-again : tie.Need-loop-again Inv-loop μ-loop
 loop-again c = search (needs, entered-next)
 
--- src/live.rt:38:1
 same-length : tie.Need-same-length Inv-loop μ-loop
 same-length c = search needs
 
--- src/live.rt:38:1
 returns : tie.Need-returns Inv-loop μ-loop
 returns c = search (needs, entered-all)
 

@@ -7,39 +7,30 @@ use Rattle.live_lines.proofs.owe.put_owe.Lts as lts
 use Rattle.live_lines.proofs.owe.put_owe_head.Reads as put-owe-head-reads
 use Rattle.live_lines.proofs.owe.put_owed.Reads as put-owed-reads
 
--- src/owe.rt:48:13
 put-owe-head-requires : tie.Need-put-owe-head-requires
 put-owe-head-requires c κs = search needs
 
--- src/owe.rt:49:9
 put-owed-requires : tie.Need-put-owed-requires
 put-owed-requires c κs = search (needs, ready-first)
 
--- src/owe.rt:49:9
 same-length : tie.Need-same-length
 same-length c = search needs
 
--- src/owe.rt:49:9
 returns : tie.Need-returns
 returns c = search (needs, owe-eventually)
 
--- src/owe.rt:51:9
 put-owe-head-requires-2 : tie.Need-put-owe-head-requires-2
 put-owe-head-requires-2 c κs = search needs
 
--- src/owe.rt:52:9
 put-owed-requires-2 : tie.Need-put-owed-requires-2
 put-owed-requires-2 c κs = search (needs, ready-first)
 
--- src/owe.rt:53:5
 put-owed-requires-3 : tie.Need-put-owed-requires-3
 put-owed-requires-3 c κs = search (needs, ready-second)
 
--- src/owe.rt:34:1
 same-length-2 : tie.Need-same-length-2
 same-length-2 c = search needs
 
--- src/owe.rt:34:1
 returns-2 : tie.Need-returns-2
 returns-2 c = search (needs, owe-until)
 

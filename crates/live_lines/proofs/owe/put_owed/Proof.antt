@@ -7,19 +7,15 @@ use Rattle.live_lines.proofs.owe.put_owed.Lts as lts
 use Rattle.spelling.proofs.scan.put_operand.Reads as put-operand-reads
 use Rattle.text.proofs.write.put_byte.Reads as put-byte-reads
 
--- src/owe.rt:29:9
 put-operand-requires : tie.Need-put-operand-requires
 put-operand-requires c κs = search needs
 
--- src/owe.rt:30:5
 put-byte-requires : tie.Need-put-byte-requires
 put-byte-requires c κs = search needs
 
--- src/owe.rt:25:1
 same-length : tie.Need-same-length
 same-length c = search needs
 
--- src/owe.rt:25:1
 returns : tie.Need-returns
 returns c = search (needs, operand-marked)
 

@@ -17,75 +17,57 @@ Inv-loop out₀ at ops nums owed n place₀ k₀ out place k =
 abbrev μ-loop : tie.MeasureT-loop
 μ-loop out₀ at ops nums owed n place₀ k₀ out place k = n - k
 
--- src/owe.rt:63:5
 loop-holds : tie.Need-loop-holds Inv-loop μ-loop
 loop-holds c = search (needs, owed-first)
 
--- src/owe.rt:64:25
 mul-kind : tie.Need-mul-kind Inv-loop μ-loop
 mul-kind c = search needs
 
--- src/owe.rt:64:20
 mul-kind-2 : tie.Need-mul-kind-2 Inv-loop μ-loop
 mul-kind-2 c = search needs
 
--- src/owe.rt:64:20
 shared-slice-read-kind : tie.Need-shared-slice-read-kind Inv-loop μ-loop
 shared-slice-read-kind c = search (needs, owe-room)
 
--- src/owe.rt:65:26
 mul-first : tie.Need-mul-first Inv-loop μ-loop
 mul-first c = search needs
 
--- src/owe.rt:65:26
 add-first : tie.Need-add-first Inv-loop μ-loop
 add-first c = search needs
 
--- src/owe.rt:65:21
 mul-first-2 : tie.Need-mul-first-2 Inv-loop μ-loop
 mul-first-2 c = search needs
 
--- src/owe.rt:65:21
 shared-slice-read-first : tie.Need-shared-slice-read-first Inv-loop μ-loop
 shared-slice-read-first c = search (needs, owe-room-1)
 
--- src/owe.rt:66:27
 mul-second : tie.Need-mul-second Inv-loop μ-loop
 mul-second c = search needs
 
--- src/owe.rt:66:27
 add-second : tie.Need-add-second Inv-loop μ-loop
 add-second c = search needs
 
--- src/owe.rt:66:22
 mul-second-2 : tie.Need-mul-second-2 Inv-loop μ-loop
 mul-second-2 c = search needs
 
--- src/owe.rt:66:22
 shared-slice-read-second : tie.Need-shared-slice-read-second Inv-loop μ-loop
 shared-slice-read-second c = search (needs, owe-room-2)
 
--- src/owe.rt:67:9
 put-owe-requires : tie.Need-put-owe-requires Inv-loop μ-loop
 put-owe-requires c κs = search (needs, owe-ready)
 
--- src/owe.rt:68:9
 add-k : tie.Need-add-k Inv-loop μ-loop
 add-k c = search needs
 
--- src/owe.rt:63:5
 loop-less : tie.Need-loop-less Inv-loop μ-loop
 loop-less c = search needs
 
--- src/owe.rt:63:5
 loop-again : tie.Need-loop-again Inv-loop μ-loop
 loop-again c = search (needs, owed-next)
 
--- src/owe.rt:57:1
 same-length : tie.Need-same-length Inv-loop μ-loop
 same-length c = search needs
 
--- src/owe.rt:57:1
 returns : tie.Need-returns Inv-loop μ-loop
 returns c = search (needs, owed-all)
 

@@ -5,15 +5,12 @@ use Rattle.monitor.proofs.node.expr_from.Tie as tie
 use Rattle.monitor.proofs.node.expr_from.Reads as reads
 use Rattle.monitor.proofs.node.expr_from.Lts as lts
 
--- src/node.rt:142:9
 returns : tie.Need-returns
 returns c = search (needs, expr-zero)
 
--- src/node.rt:144:21
 sub-t3 : tie.Need-sub-t3
 sub-t3 c = search needs
 
--- src/node.rt:138:1
 returns-2 : tie.Need-returns-2
 returns-2 c = search (needs, expr-some)
 

@@ -5,23 +5,18 @@ use Rattle.monitor.proofs.node.expr_number.Tie as tie
 use Rattle.monitor.proofs.node.expr_number.Reads as reads
 use Rattle.monitor.proofs.node.expr_number.Lts as lts
 
--- src/node.rt:49:29
 enum-told : tie.Need-enum-told
 enum-told c = search needs
 
--- src/node.rt:50:24
 enum-known-e : tie.Need-enum-known-e
 enum-known-e c = search needs
 
--- src/node.rt:50:30
 add-result : tie.Need-add-result
 add-result c = search (needs, number-fits)
 
--- src/node.rt:44:1
 returns : tie.Need-returns
 returns c = search needs
 
--- src/node.rt:44:1
 returns-2 : tie.Need-returns-2
 returns-2 c = search (needs, number-at)
 

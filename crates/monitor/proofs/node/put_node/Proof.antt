@@ -8,111 +8,84 @@ use Rattle.monitor.proofs.node.expr_number.Reads as expr-number-reads
 use Rattle.monitor.proofs.node.none.Reads as none-reads
 use Rattle.monitor.proofs.node.put_row.Reads as put-row-reads
 
--- src/node.rt:97:31
 enum-known-node : tie.Need-enum-known-node
 enum-known-node c = search needs
 
--- src/node.rt:98:43
 expr-number-requires : tie.Need-expr-number-requires
 expr-number-requires c κs = search (needs, range-first)
 
--- src/node.rt:98:13
 put-row-requires : tie.Need-put-row-requires
 put-row-requires c κs = search needs
 
--- src/node.rt:101:13
 enum-known-node-2 : tie.Need-enum-known-node-2
 enum-known-node-2 c = search needs
 
--- src/node.rt:105:17
 expr-number-requires-2 : tie.Need-expr-number-requires-2
 expr-number-requires-2 c κs = search (needs, delayed-first)
 
--- src/node.rt:106:17
 expr-number-requires-3 : tie.Need-expr-number-requires-3
 expr-number-requires-3 c κs = search (needs, delayed-second)
 
--- src/node.rt:107:13
 put-row-requires-2 : tie.Need-put-row-requires-2
 put-row-requires-2 c κs = search needs
 
--- src/node.rt:110:13
 enum-known-node-3 : tie.Need-enum-known-node-3
 enum-known-node-3 c = search needs
 
--- src/node.rt:115:17
 expr-number-requires-4 : tie.Need-expr-number-requires-4
 expr-number-requires-4 c κs = search (needs, owed-first)
 
--- src/node.rt:116:17
 expr-number-requires-5 : tie.Need-expr-number-requires-5
 expr-number-requires-5 c κs = search (needs, owed-second)
 
--- src/node.rt:117:13
 put-row-requires-3 : tie.Need-put-row-requires-3
 put-row-requires-3 c κs = search needs
 
--- src/node.rt:120:21
 enum-told : tie.Need-enum-told
 enum-told c = search needs
 
--- src/node.rt:120:36
 none-requires : tie.Need-none-requires
 none-requires c κs = search needs
 
--- src/node.rt:120:13
 put-row-requires-4 : tie.Need-put-row-requires-4
 put-row-requires-4 c κs = search needs
 
--- src/node.rt:123:21
 enum-told-2 : tie.Need-enum-told-2
 enum-told-2 c = search needs
 
--- src/node.rt:123:36
 none-requires-2 : tie.Need-none-requires-2
 none-requires-2 c κs = search needs
 
--- src/node.rt:123:13
 put-row-requires-5 : tie.Need-put-row-requires-5
 put-row-requires-5 c κs = search needs
 
--- src/node.rt:92:1
 same-length : tie.Need-same-length
 same-length c = search needs
 
--- src/node.rt:92:1
 returns : tie.Need-returns
 returns c = search (needs, arm-range)
 
--- src/node.rt:92:1
 same-length-2 : tie.Need-same-length-2
 same-length-2 c = search needs
 
--- src/node.rt:92:1
 returns-2 : tie.Need-returns-2
 returns-2 c = search (needs, arm-delayed)
 
--- src/node.rt:92:1
 same-length-3 : tie.Need-same-length-3
 same-length-3 c = search needs
 
--- src/node.rt:92:1
 returns-3 : tie.Need-returns-3
 returns-3 c = search (needs, arm-owed)
 
--- src/node.rt:92:1
 same-length-4 : tie.Need-same-length-4
 same-length-4 c = search needs
 
--- src/node.rt:92:1
 returns-4 : tie.Need-returns-4
 returns-4 c = search (needs, arm-and)
 
--- src/node.rt:92:1
 same-length-5 : tie.Need-same-length-5
 same-length-5 c = search needs
 
--- src/node.rt:92:1
 returns-5 : tie.Need-returns-5
 returns-5 c = search (needs, arm-or)
 

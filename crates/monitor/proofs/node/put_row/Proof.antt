@@ -9,103 +9,78 @@ use Rattle.monitor.proofs.node.put_row.Lts as lts
 use Rattle.monitor.proofs.node.has_last.Reads as has-last-reads
 use Rattle.monitor.proofs.node.last_of.Reads as last-of-reads
 
--- src/node.rt:77:13
 mul-i : tie.Need-mul-i
 mul-i c = search needs
 
--- src/node.rt:80:9
 has-last-requires : tie.Need-has-last-requires
 has-last-requires c κs = search needs
 
--- src/node.rt:81:9
 last-of-requires : tie.Need-last-of-requires
 last-of-requires c κs = search needs
 
--- src/node.rt:82:5
 mul-out : tie.Need-mul-out
 mul-out c = search needs
 
--- src/node.rt:82:5
 slice-write-out : tie.Need-slice-write-out
 slice-write-out c = search needs
 
--- src/node.rt:83:9
 add-out : tie.Need-add-out
 add-out c = search needs
 
--- src/node.rt:83:5
 mul-out-2 : tie.Need-mul-out-2
 mul-out-2 c = search needs
 
--- src/node.rt:83:5
 slice-write-out-2 : tie.Need-slice-write-out-2
 slice-write-out-2 c = simp length-set (omega arith)
 
--- src/node.rt:84:9
 add-out-2 : tie.Need-add-out-2
 add-out-2 c = search needs
 
--- src/node.rt:84:5
 mul-out-3 : tie.Need-mul-out-3
 mul-out-3 c = search needs
 
--- src/node.rt:84:5
 slice-write-out-3 : tie.Need-slice-write-out-3
 slice-write-out-3 c = simp length-set (omega arith)
 
--- src/node.rt:85:9
 add-out-3 : tie.Need-add-out-3
 add-out-3 c = search needs
 
--- src/node.rt:85:5
 mul-out-4 : tie.Need-mul-out-4
 mul-out-4 c = search needs
 
--- src/node.rt:85:5
 slice-write-out-4 : tie.Need-slice-write-out-4
 slice-write-out-4 c = simp length-set (omega arith)
 
--- src/node.rt:86:9
 add-out-4 : tie.Need-add-out-4
 add-out-4 c = search needs
 
--- src/node.rt:86:5
 mul-out-5 : tie.Need-mul-out-5
 mul-out-5 c = search needs
 
--- src/node.rt:86:5
 slice-write-out-5 : tie.Need-slice-write-out-5
 slice-write-out-5 c = simp length-set (omega arith)
 
--- src/node.rt:87:9
 add-out-5 : tie.Need-add-out-5
 add-out-5 c = search needs
 
--- src/node.rt:87:5
 mul-out-6 : tie.Need-mul-out-6
 mul-out-6 c = search needs
 
--- src/node.rt:87:5
 slice-write-out-6 : tie.Need-slice-write-out-6
 slice-write-out-6 c = simp length-set (omega arith)
 
--- src/node.rt:88:9
 add-out-6 : tie.Need-add-out-6
 add-out-6 c = search needs
 
--- src/node.rt:88:5
 mul-out-7 : tie.Need-mul-out-7
 mul-out-7 c = search needs
 
--- src/node.rt:88:5
 slice-write-out-7 : tie.Need-slice-write-out-7
 slice-write-out-7 c = simp length-set (omega arith)
 
--- src/node.rt:73:1
 same-length : tie.Need-same-length
 same-length c = simp length-set
 
--- src/node.rt:73:1
 returns : tie.Need-returns
 returns c = search (needs, seven)
 

@@ -5,11 +5,9 @@ use Rattle.monitor.proofs.node.range_from.Tie as tie
 use Rattle.monitor.proofs.node.range_from.Reads as reads
 use Rattle.monitor.proofs.node.range_from.Lts as lts
 
--- src/node.rt:151:9
 returns : tie.Need-returns
 returns c = search (needs, range-open)
 
--- src/node.rt:147:1
 returns-2 : tie.Need-returns-2
 returns-2 c = search (needs, range-step)
 

@@ -7,123 +7,93 @@ use Rattle.monitor.proofs.node.row_at.Lts as lts
 use Rattle.monitor.proofs.node.expr_from.Reads as expr-from-reads
 use Rattle.monitor.proofs.node.range_from.Reads as range-from-reads
 
--- src/node.rt:167:13
 mul-k : tie.Need-mul-k
 mul-k c = search needs
 
--- src/node.rt:168:16
 mul-form : tie.Need-mul-form
 mul-form c = search needs
 
--- src/node.rt:168:16
 shared-slice-read-form : tie.Need-shared-slice-read-form
 shared-slice-read-form c = search needs
 
--- src/node.rt:170:9
 returns : tie.Need-returns
 returns c = search (needs, row-unknown)
 
--- src/node.rt:173:9
 returns-2 : tie.Need-returns-2
 returns-2 c = search (needs, row-or)
 
--- src/node.rt:176:9
 returns-3 : tie.Need-returns-3
 returns-3 c = search (needs, row-and)
 
--- src/node.rt:178:34
 add-range-from : tie.Need-add-range-from
 add-range-from c = search needs
 
--- src/node.rt:178:28
 mul-range-from : tie.Need-mul-range-from
 mul-range-from c = search needs
 
--- src/node.rt:178:28
 shared-slice-read-range-from : tie.Need-shared-slice-read-range-from
 shared-slice-read-range-from c = search needs
 
--- src/node.rt:178:48
 add-range-from-2 : tie.Need-add-range-from-2
 add-range-from-2 c = search needs
 
--- src/node.rt:178:42
 mul-range-from-2 : tie.Need-mul-range-from-2
 mul-range-from-2 c = search needs
 
--- src/node.rt:178:42
 shared-slice-read-range-from-2 : tie.Need-shared-slice-read-range-from-2
 shared-slice-read-range-from-2 c = search needs
 
--- src/node.rt:178:62
 add-range-from-3 : tie.Need-add-range-from-3
 add-range-from-3 c = search needs
 
--- src/node.rt:178:56
 mul-range-from-3 : tie.Need-mul-range-from-3
 mul-range-from-3 c = search needs
 
--- src/node.rt:178:56
 shared-slice-read-range-from-3 : tie.Need-shared-slice-read-range-from-3
 shared-slice-read-range-from-3 c = search needs
 
--- src/node.rt:178:9
 range-from-requires : tie.Need-range-from-requires
 range-from-requires c κs = search needs
 
--- src/node.rt:179:29
 add-expr-from : tie.Need-add-expr-from
 add-expr-from c = search needs
 
--- src/node.rt:179:23
 mul-expr-from : tie.Need-mul-expr-from
 mul-expr-from c = search needs
 
--- src/node.rt:179:23
 shared-slice-read-expr-from : tie.Need-shared-slice-read-expr-from
 shared-slice-read-expr-from c = search needs
 
--- src/node.rt:179:9
 expr-from-requires : tie.Need-expr-from-requires
 expr-from-requires c κs = search needs
 
--- src/node.rt:181:9
 returns-4 : tie.Need-returns-4
 returns-4 c = search (needs, row-range)
 
--- src/node.rt:183:29
 add-expr-from-2 : tie.Need-add-expr-from-2
 add-expr-from-2 c = search needs
 
--- src/node.rt:183:23
 mul-expr-from-2 : tie.Need-mul-expr-from-2
 mul-expr-from-2 c = search needs
 
--- src/node.rt:183:23
 shared-slice-read-expr-from-2 : tie.Need-shared-slice-read-expr-from-2
 shared-slice-read-expr-from-2 c = search needs
 
--- src/node.rt:183:9
 expr-from-requires-2 : tie.Need-expr-from-requires-2
 expr-from-requires-2 c κs = search needs
 
--- src/node.rt:185:9
 returns-5 : tie.Need-returns-5
 returns-5 c = search (needs, row-delayed)
 
--- src/node.rt:192:22
 add-t14 : tie.Need-add-t14
 add-t14 c = search needs
 
--- src/node.rt:192:16
 mul-t16 : tie.Need-mul-t16
 mul-t16 c = search needs
 
--- src/node.rt:192:16
 shared-slice-read-t23 : tie.Need-shared-slice-read-t23
 shared-slice-read-t23 c = search needs
 
--- src/node.rt:163:1
 returns-6 : tie.Need-returns-6
 returns-6 c = search (needs, row-owed)
 

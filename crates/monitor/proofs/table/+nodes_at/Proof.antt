@@ -22,7 +22,6 @@ abbrev nodes-at-below : ℕ → In 3 nodes-at-kinds.ps
 nodes-at-below t =
     and 3 nodes-at-kinds.ps (falls 3 nodes-at-kinds.ps _<_ μ-nodes-at t) nodes-at.Pre
 
--- src/table.rt:112:9
 nodes-at-returns : (t : ℕ) → nodes-at-lts.Need-returns (
   kind-at-reads.Asked,
   kind-at-reads.Learnt,
@@ -31,7 +30,6 @@ nodes-at-returns : (t : ℕ) → nodes-at-lts.Need-returns (
 ) (nodes-at-at t) nodes-at.Post
 nodes-at-returns t c = search (needs, walk-past)
 
--- src/table.rt:115:9
 nodes-at-returns-2 : (t : ℕ) → nodes-at-lts.Need-returns-2 (
   kind-at-reads.Asked,
   kind-at-reads.Learnt,
@@ -40,7 +38,6 @@ nodes-at-returns-2 : (t : ℕ) → nodes-at-lts.Need-returns-2 (
 ) (nodes-at-at t) nodes-at.Post
 nodes-at-returns-2 t c = search (needs, walk-flat)
 
--- src/table.rt:117:9
 nodes-at-kind-at-requires : (t : ℕ) → nodes-at-lts.Need-kind-at-requires (
   kind-at-reads.Asked,
   kind-at-reads.Learnt,
@@ -49,7 +46,6 @@ nodes-at-kind-at-requires : (t : ℕ) → nodes-at-lts.Need-kind-at-requires (
 ) (nodes-at-at t) nodes-at.Post
 nodes-at-kind-at-requires t c κs = search (needs, row-inside)
 
--- src/table.rt:120:31
 nodes-at-enum-told : (t : ℕ) → nodes-at-lts.Need-enum-told (
   kind-at-reads.Asked,
   kind-at-reads.Learnt,
@@ -58,7 +54,6 @@ nodes-at-enum-told : (t : ℕ) → nodes-at-lts.Need-enum-told (
 ) (nodes-at-at t) nodes-at.Post
 nodes-at-enum-told t c = search needs
 
--- src/table.rt:120:31
 nodes-at-add-t13 : (t : ℕ) → nodes-at-lts.Need-add-t13 (
   kind-at-reads.Asked,
   kind-at-reads.Learnt,
@@ -67,7 +62,6 @@ nodes-at-add-t13 : (t : ℕ) → nodes-at-lts.Need-add-t13 (
 ) (nodes-at-at t) nodes-at.Post
 nodes-at-add-t13 t c = search needs
 
--- src/table.rt:120:13
 nodes-at-returns-3 : (t : ℕ) → nodes-at-lts.Need-returns-3 (
   kind-at-reads.Asked,
   kind-at-reads.Learnt,
@@ -76,7 +70,6 @@ nodes-at-returns-3 : (t : ℕ) → nodes-at-lts.Need-returns-3 (
 ) (nodes-at-at t) nodes-at.Post
 nodes-at-returns-3 t c = search (needs, node-leaf)
 
--- src/table.rt:123:13
 nodes-at-enum-told-2 : (t : ℕ) → nodes-at-lts.Need-enum-told-2 (
   kind-at-reads.Asked,
   kind-at-reads.Learnt,
@@ -85,7 +78,6 @@ nodes-at-enum-told-2 : (t : ℕ) → nodes-at-lts.Need-enum-told-2 (
 ) (nodes-at-at t) nodes-at.Post
 nodes-at-enum-told-2 t c = search needs
 
--- src/table.rt:123:13
 nodes-at-returns-4 : (t : ℕ) → nodes-at-lts.Need-returns-4 (
   kind-at-reads.Asked,
   kind-at-reads.Learnt,
@@ -94,7 +86,6 @@ nodes-at-returns-4 : (t : ℕ) → nodes-at-lts.Need-returns-4 (
 ) (nodes-at-at t) nodes-at.Post
 nodes-at-returns-4 t c = search (needs, node-unknown)
 
--- src/table.rt:126:65
 nodes-at-enum-told-3 : (t : ℕ) → nodes-at-lts.Need-enum-told-3 (
   kind-at-reads.Asked,
   kind-at-reads.Learnt,
@@ -103,7 +94,6 @@ nodes-at-enum-told-3 : (t : ℕ) → nodes-at-lts.Need-enum-told-3 (
 ) (nodes-at-at t) nodes-at.Post
 nodes-at-enum-told-3 t c = search needs
 
--- src/table.rt:126:65
 nodes-at-add-nodes-at : (t : ℕ) → nodes-at-lts.Need-add-nodes-at (
   kind-at-reads.Asked,
   kind-at-reads.Learnt,
@@ -112,7 +102,6 @@ nodes-at-add-nodes-at : (t : ℕ) → nodes-at-lts.Need-add-nodes-at (
 ) (nodes-at-at t) nodes-at.Post
 nodes-at-add-nodes-at t c = search needs
 
--- src/table.rt:126:77
 nodes-at-sub-nodes-at : (t : ℕ) → nodes-at-lts.Need-sub-nodes-at (
   kind-at-reads.Asked,
   kind-at-reads.Learnt,
@@ -121,7 +110,6 @@ nodes-at-sub-nodes-at : (t : ℕ) → nodes-at-lts.Need-sub-nodes-at (
 ) (nodes-at-at t) nodes-at.Post
 nodes-at-sub-nodes-at t c = search needs
 
--- src/table.rt:126:17
 nodes-at-nodes-at-requires : (t : ℕ) → nodes-at-lts.Need-nodes-at-requires (
   kind-at-reads.Asked,
   kind-at-reads.Learnt,
@@ -130,7 +118,6 @@ nodes-at-nodes-at-requires : (t : ℕ) → nodes-at-lts.Need-nodes-at-requires (
 ) (nodes-at-at t) nodes-at.Post
 nodes-at-nodes-at-requires t c κs = search needs
 
--- src/table.rt:127:28
 nodes-at-enum-known-left : (t : ℕ) → nodes-at-lts.Need-enum-known-left (
   kind-at-reads.Asked,
   kind-at-reads.Learnt,
@@ -139,7 +126,6 @@ nodes-at-enum-known-left : (t : ℕ) → nodes-at-lts.Need-enum-known-left (
 ) (nodes-at-at t) nodes-at.Post
 nodes-at-enum-known-left t c = search needs
 
--- src/table.rt:128:17
 nodes-at-enum-told-4 : (t : ℕ) → nodes-at-lts.Need-enum-told-4 (
   kind-at-reads.Asked,
   kind-at-reads.Learnt,
@@ -148,7 +134,6 @@ nodes-at-enum-told-4 : (t : ℕ) → nodes-at-lts.Need-enum-told-4 (
 ) (nodes-at-at t) nodes-at.Post
 nodes-at-enum-told-4 t c = search needs
 
--- src/table.rt:128:17
 nodes-at-returns-5 : (t : ℕ) → nodes-at-lts.Need-returns-5 (
   kind-at-reads.Asked,
   kind-at-reads.Learnt,
@@ -157,7 +142,6 @@ nodes-at-returns-5 : (t : ℕ) → nodes-at-lts.Need-returns-5 (
 ) (nodes-at-at t) nodes-at.Post
 nodes-at-returns-5 t c = search (needs, node-left)
 
--- src/table.rt:130:69
 nodes-at-sub-nodes-at-2 : (t : ℕ) → nodes-at-lts.Need-sub-nodes-at-2 (
   kind-at-reads.Asked,
   kind-at-reads.Learnt,
@@ -166,7 +150,6 @@ nodes-at-sub-nodes-at-2 : (t : ℕ) → nodes-at-lts.Need-sub-nodes-at-2 (
 ) (nodes-at-at t) nodes-at.Post
 nodes-at-sub-nodes-at-2 t c = search needs
 
--- src/table.rt:130:13
 nodes-at-nodes-at-requires-2 : (t : ℕ) → nodes-at-lts.Need-nodes-at-requires-2 (
   kind-at-reads.Asked,
   kind-at-reads.Learnt,
@@ -175,7 +158,6 @@ nodes-at-nodes-at-requires-2 : (t : ℕ) → nodes-at-lts.Need-nodes-at-requires
 ) (nodes-at-at t) nodes-at.Post
 nodes-at-nodes-at-requires-2 t c κs = search (needs, falls-past)
 
--- src/table.rt:130:13
 nodes-at-returns-6 : (t : ℕ) → nodes-at-lts.Need-returns-6 (
   kind-at-reads.Asked,
   kind-at-reads.Learnt,

@@ -6,43 +6,33 @@ use Rattle.monitor.proofs.table.has_nodes.Reads as reads
 use Rattle.monitor.proofs.table.has_nodes.Lts as lts
 use Rattle.monitor.proofs.table.nodes_at.Reads as nodes-at-reads
 
--- src/table.rt:150:9
 returns : tie.Need-returns
 returns c = search (needs, many-nodes)
 
--- src/table.rt:154:9
 returns-2 : tie.Need-returns-2
 returns-2 c = search (needs, past-nodes)
 
--- src/table.rt:157:9
 returns-3 : tie.Need-returns-3
 returns-3 c = search (needs, past-nodes-from)
 
--- src/table.rt:159:15
 add-end : tie.Need-add-end
 add-end c = search needs
 
--- src/table.rt:160:25
 nodes-at-requires : tie.Need-nodes-at-requires
 nodes-at-requires c κs = search (needs, end-inside)
 
--- src/table.rt:160:20
 enum-known-e : tie.Need-enum-known-e
 enum-known-e c = search needs
 
--- src/table.rt:161:9
 enum-told : tie.Need-enum-told
 enum-told c = search needs
 
--- src/table.rt:161:9
 returns-4 : tie.Need-returns-4
 returns-4 c = search (needs, no-nodes)
 
--- src/table.rt:164:9
 returns-5 : tie.Need-returns-5
 returns-5 c = search (needs, all-nodes)
 
--- src/table.rt:145:1
 returns-6 : tie.Need-returns-6
 returns-6 c = search (needs, other-end)
 

@@ -8,19 +8,15 @@ use Rattle.monitor.proofs.table.is_compiled.Lts as lts
 use Rattle.formula.proofs.table.is_rule.Reads as is-rule-reads
 use Rattle.monitor.proofs.table.has_nodes.Reads as has-nodes-reads
 
--- src/table.rt:139:8
 is-rule-requires : tie.Need-is-rule-requires
 is-rule-requires c κs = search needs
 
--- src/table.rt:140:9
 has-nodes-requires : tie.Need-has-nodes-requires
 has-nodes-requires c κs = search (needs, is-a-rule)
 
--- src/table.rt:140:9
 returns : tie.Need-returns
 returns c = search needs
 
--- src/table.rt:136:1
 returns-2 : tie.Need-returns-2
 returns-2 c = search (needs, no-formula)
 

@@ -6,30 +6,24 @@ use Rattle.monitor.proofs.table.is_pure_part.Reads as reads
 use Rattle.monitor.proofs.table.is_pure_part.Lts as lts
 use Rattle.formula.proofs.signal.pure_at.Reads as pure-at-reads
 
--- src/table.rt:22:9
 returns : tie.Need-returns
 returns c = search (needs, before-rule)
 
--- src/table.rt:25:9
 returns-2 : tie.Need-returns-2
 returns-2 c = search (needs, past-rule)
 
--- src/table.rt:27:25
 pure-at-requires : tie.Need-pure-at-requires
 pure-at-requires c κs = search (needs, placed-part)
 
 enum-told : tie.Need-enum-told
 enum-told c = search needs
 
--- src/table.rt:28:9
 enum-told-2 : tie.Need-enum-told-2
 enum-told-2 c = search needs
 
--- src/table.rt:28:9
 returns-3 : tie.Need-returns-3
 returns-3 c = search (needs, impure-part)
 
--- src/table.rt:17:1
 returns-4 : tie.Need-returns-4
 returns-4 c = search (needs, pure-part)
 

@@ -6,23 +6,18 @@ use Rattle.monitor.proofs.table.is_signal.Reads as reads
 use Rattle.monitor.proofs.table.is_signal.Lts as lts
 use Rattle.monitor.proofs.table.is_pure_part.Reads as is-pure-part-reads
 
--- src/table.rt:39:29
 enum-told : tie.Need-enum-told
 enum-told c = search needs
 
--- src/table.rt:40:24
 enum-known-e : tie.Need-enum-known-e
 enum-known-e c = search needs
 
--- src/table.rt:40:30
 is-pure-part-requires : tie.Need-is-pure-part-requires
 is-pure-part-requires c κs = search needs
 
--- src/table.rt:34:1
 returns : tie.Need-returns
 returns c = search (needs, true-signal)
 
--- src/table.rt:34:1
 returns-2 : tie.Need-returns-2
 returns-2 c = search (needs, at-signal)
 

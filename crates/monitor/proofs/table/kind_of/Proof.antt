@@ -6,83 +6,63 @@ use Rattle.monitor.proofs.table.kind_of.Reads as reads
 use Rattle.monitor.proofs.table.kind_of.Lts as lts
 use Rattle.monitor.proofs.table.is_signal.Reads as is-signal-reads
 
--- src/table.rt:56:31
 enum-known-node : tie.Need-enum-known-node
 enum-known-node c = search needs
 
--- src/table.rt:57:16
 is-signal-requires : tie.Need-is-signal-requires
 is-signal-requires c κs = search needs
 
--- src/table.rt:58:17
 returns : tie.Need-returns
 returns c = search (needs, range-known)
 
--- src/table.rt:60:13
 returns-2 : tie.Need-returns-2
 returns-2 c = search (needs, range-unknown)
 
--- src/table.rt:63:13
 enum-known-node-2 : tie.Need-enum-known-node-2
 enum-known-node-2 c = search needs
 
--- src/table.rt:67:16
 is-signal-requires-2 : tie.Need-is-signal-requires-2
 is-signal-requires-2 c κs = search needs
 
--- src/table.rt:68:20
 is-signal-requires-3 : tie.Need-is-signal-requires-3
 is-signal-requires-3 c κs = search needs
 
--- src/table.rt:69:21
 returns-3 : tie.Need-returns-3
 returns-3 c = search (needs, delayed-known)
 
--- src/table.rt:72:13
 returns-4 : tie.Need-returns-4
 returns-4 c = search (needs, delayed-second)
 
--- src/table.rt:72:13
 returns-5 : tie.Need-returns-5
 returns-5 c = search (needs, delayed-first)
 
--- src/table.rt:76:13
 enum-known-node-3 : tie.Need-enum-known-node-3
 enum-known-node-3 c = search needs
 
--- src/table.rt:80:16
 is-signal-requires-4 : tie.Need-is-signal-requires-4
 is-signal-requires-4 c κs = search needs
 
--- src/table.rt:81:20
 is-signal-requires-5 : tie.Need-is-signal-requires-5
 is-signal-requires-5 c κs = search needs
 
--- src/table.rt:82:21
 returns-6 : tie.Need-returns-6
 returns-6 c = search (needs, owed-known)
 
--- src/table.rt:85:13
 returns-7 : tie.Need-returns-7
 returns-7 c = search (needs, owed-second)
 
--- src/table.rt:85:13
 returns-8 : tie.Need-returns-8
 returns-8 c = search (needs, owed-first)
 
--- src/table.rt:88:13
 enum-told : tie.Need-enum-told
 enum-told c = search needs
 
--- src/table.rt:88:13
 returns-9 : tie.Need-returns-9
 returns-9 c = search (needs, and-joined)
 
--- src/table.rt:91:13
 enum-told-2 : tie.Need-enum-told-2
 enum-told-2 c = search needs
 
--- src/table.rt:91:13
 returns-10 : tie.Need-returns-10
 returns-10 c = search (needs, or-joined)
 

@@ -7,31 +7,24 @@ use Rattle.node_step.proofs.check.delayed_now.Lts as lts
 use Rattle.monitor.proofs.range.AnchorRange.contains.Reads as contains-reads
 use Rattle.node_step.proofs.check.truth_of.Reads as truth-of-reads
 
--- src/check.rt:64:9
 returns : tie.Need-returns
 returns c = search (needs, delayed-failed)
 
--- src/check.rt:66:8
 contains-requires : tie.Need-contains-requires
 contains-requires c κs = search needs
 
--- src/check.rt:68:16
 truth-of-requires : tie.Need-truth-of-requires
 truth-of-requires c κs = search (needs, consequent-named)
 
--- src/check.rt:69:17
 returns-2 : tie.Need-returns-2
 returns-2 c = search (needs, delayed-met)
 
--- src/check.rt:71:13
 returns-3 : tie.Need-returns-3
 returns-3 c = search (needs, delayed-missed)
 
--- src/check.rt:59:1
 returns-4 : tie.Need-returns-4
 returns-4 c = search (needs, delayed-quiet)
 
--- src/check.rt:59:1
 returns-5 : tie.Need-returns-5
 returns-5 c = search (needs, delayed-out)
 

@@ -7,19 +7,15 @@ use Rattle.node_step.proofs.check.is_due.Lts as lts
 use Rattle.monitor.proofs.range.AnchorRange.contains.Reads as contains-reads
 use Rattle.node_step.proofs.check.truth_of.Reads as truth-of-reads
 
--- src/check.rt:168:8
 contains-requires : tie.Need-contains-requires
 contains-requires c κs = search needs
 
--- src/check.rt:169:9
 truth-of-requires : tie.Need-truth-of-requires
 truth-of-requires c κs = search needs
 
--- src/check.rt:169:9
 returns : tie.Need-returns
 returns c = search (needs, due-in)
 
--- src/check.rt:164:1
 returns-2 : tie.Need-returns-2
 returns-2 c = search (needs, due-out)
 

@@ -6,59 +6,45 @@ use Rattle.node_step.proofs.check.open_window.Reads as reads
 use Rattle.node_step.proofs.check.open_window.Lts as lts
 use Rattle.node_step.proofs.check.is_due.Reads as is-due-reads
 
--- src/check.rt:131:8
 slice-read-if1 : tie.Need-slice-read-if1
 slice-read-if1 c = search needs
 
--- src/check.rt:132:9
 returns : tie.Need-returns
 returns c = search (needs, window-kept)
 
--- src/check.rt:134:8
 is-due-requires : tie.Need-is-due-requires
 is-due-requires c κs = search needs
 
--- src/check.rt:135:9
 slice-write-held : tie.Need-slice-write-held
 slice-write-held c = search needs
 
--- src/check.rt:136:9
 mul-remaining : tie.Need-mul-remaining
 mul-remaining c = search needs
 
--- src/check.rt:136:9
 slice-write-remaining : tie.Need-slice-write-remaining
 slice-write-remaining c = search needs
 
--- src/check.rt:137:23
 cast-culprits : tie.Need-cast-culprits
 cast-culprits c = search needs
 
--- src/check.rt:137:9
 mul-t18 : tie.Need-mul-t18
 mul-t18 c = search needs
 
--- src/check.rt:137:9
 slice-set-from-culprits : tie.Need-slice-set-from-culprits
 slice-set-from-culprits c = search needs
 
--- src/check.rt:138:9
 same-length : tie.Need-same-length
 same-length c = search needs
 
--- src/check.rt:138:9
 same-length-2 : tie.Need-same-length-2
 same-length-2 c = search needs
 
--- src/check.rt:138:9
 same-length-3 : tie.Need-same-length-3
 same-length-3 c = search needs
 
--- src/check.rt:138:9
 returns-2 : tie.Need-returns-2
 returns-2 c = search (needs, window-new)
 
--- src/check.rt:114:1
 returns-3 : tie.Need-returns-3
 returns-3 c = search (needs, window-none)
 

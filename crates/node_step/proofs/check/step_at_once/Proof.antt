@@ -7,47 +7,36 @@ use Rattle.node_step.proofs.check.step_at_once.Lts as lts
 use Rattle.node_step.proofs.check.is_due.Reads as is-due-reads
 use Rattle.node_step.proofs.check.truth_of.Reads as truth-of-reads
 
--- src/check.rt:187:8
 is-due-requires : tie.Need-is-due-requires
 is-due-requires c κs = search needs
 
--- src/check.rt:188:12
 truth-of-requires : tie.Need-truth-of-requires
 truth-of-requires c κs = search needs
 
--- src/check.rt:189:13
 returns : tie.Need-returns
 returns c = search (needs, zero-met)
 
--- src/check.rt:191:9
 slice-write-failed : tie.Need-slice-write-failed
 slice-write-failed c = search needs
 
--- src/check.rt:192:23
 cast-culprits : tie.Need-cast-culprits
 cast-culprits c = search needs
 
--- src/check.rt:192:9
 mul-t17 : tie.Need-mul-t17
 mul-t17 c = search needs
 
--- src/check.rt:192:9
 slice-set-from-culprits : tie.Need-slice-set-from-culprits
 slice-set-from-culprits c = search needs
 
--- src/check.rt:193:9
 same-length : tie.Need-same-length
 same-length c = search needs
 
--- src/check.rt:193:9
 same-length-2 : tie.Need-same-length-2
 same-length-2 c = search needs
 
--- src/check.rt:193:9
 returns-2 : tie.Need-returns-2
 returns-2 c = search (needs, zero-missed)
 
--- src/check.rt:170:1
 returns-3 : tie.Need-returns-3
 returns-3 c = search (needs, zero-quiet)
 

@@ -8,103 +8,78 @@ use Rattle.node_step.proofs.check.step_delayed.Reads as step-delayed-re
 use Rattle.node_step.proofs.check.step_obligation.Reads as step-obligation-reads
 use Rattle.node_step.proofs.check.step_range.Reads as step-range-reads
 
--- src/check.rt:271:31
 enum-known-node : tie.Need-enum-known-node
 enum-known-node c = search needs
 
--- src/check.rt:272:13
 step-range-requires : tie.Need-step-range-requires
 step-range-requires c κs = search (needs, checkable-as)
 
--- src/check.rt:272:13
 same-length : tie.Need-same-length
 same-length c = search needs
 
--- src/check.rt:272:13
 same-length-2 : tie.Need-same-length-2
 same-length-2 c = search needs
 
--- src/check.rt:272:13
 same-length-3 : tie.Need-same-length-3
 same-length-3 c = search needs
 
--- src/check.rt:272:13
 same-length-4 : tie.Need-same-length-4
 same-length-4 c = search needs
 
--- src/check.rt:272:13
 returns : tie.Need-returns
 returns c = search (needs, stepped-as)
 
--- src/check.rt:287:13
 enum-known-node-2 : tie.Need-enum-known-node-2
 enum-known-node-2 c = search needs
 
--- src/check.rt:291:13
 step-delayed-requires : tie.Need-step-delayed-requires
 step-delayed-requires c κs = search (needs, checkable-as)
 
--- src/check.rt:291:13
 same-length-5 : tie.Need-same-length-5
 same-length-5 c = search needs
 
--- src/check.rt:291:13
 same-length-6 : tie.Need-same-length-6
 same-length-6 c = search needs
 
--- src/check.rt:291:13
 same-length-7 : tie.Need-same-length-7
 same-length-7 c = search needs
 
--- src/check.rt:291:13
 same-length-8 : tie.Need-same-length-8
 same-length-8 c = search needs
 
--- src/check.rt:291:13
 returns-2 : tie.Need-returns-2
 returns-2 c = search (needs, stepped-as)
 
--- src/check.rt:307:13
 enum-known-node-3 : tie.Need-enum-known-node-3
 enum-known-node-3 c = search needs
 
--- src/check.rt:312:13
 step-obligation-requires : tie.Need-step-obligation-requires
 step-obligation-requires c κs = search (needs, checkable-as)
 
--- src/check.rt:312:13
 same-length-9 : tie.Need-same-length-9
 same-length-9 c = search needs
 
--- src/check.rt:312:13
 same-length-10 : tie.Need-same-length-10
 same-length-10 c = search needs
 
--- src/check.rt:312:13
 same-length-11 : tie.Need-same-length-11
 same-length-11 c = search needs
 
--- src/check.rt:312:13
 same-length-12 : tie.Need-same-length-12
 same-length-12 c = search needs
 
--- src/check.rt:312:13
 returns-3 : tie.Need-returns-3
 returns-3 c = search (needs, stepped-as)
 
--- src/check.rt:329:13
 enum-told : tie.Need-enum-told
 enum-told c = search needs
 
--- src/check.rt:329:13
 returns-4 : tie.Need-returns-4
 returns-4 c = search (needs, no-and)
 
--- src/check.rt:332:13
 enum-told-2 : tie.Need-enum-told-2
 enum-told-2 c = search needs
 
--- src/check.rt:332:13
 returns-5 : tie.Need-returns-5
 returns-5 c = search (needs, no-or)
 

@@ -8,43 +8,33 @@ use Rattle.node_step.proofs.check.delayed_now.Reads as delayed-now-read
 use Rattle.node_step.proofs.check.truth_of.Reads as truth-of-reads
 use Rattle.node_step.proofs.state.load.Reads as load-reads
 
--- src/check.rt:94:9
 load-requires : tie.Need-load-requires
 load-requires c κs = search needs
 
--- src/check.rt:95:9
 delayed-now-requires : tie.Need-delayed-now-requires
 delayed-now-requires c κs = search (needs, checked-at)
 
--- src/check.rt:96:9
 truth-of-requires : tie.Need-truth-of-requires
 truth-of-requires c κs = search (needs, antecedent-named)
 
--- src/check.rt:97:5
 slice-write-held : tie.Need-slice-write-held
 slice-write-held c = search needs
 
--- src/check.rt:98:5
 slice-write-failed : tie.Need-slice-write-failed
 slice-write-failed c = search needs
 
--- src/check.rt:77:1
 same-length : tie.Need-same-length
 same-length c = search needs
 
--- src/check.rt:77:1
 same-length-2 : tie.Need-same-length-2
 same-length-2 c = search needs
 
--- src/check.rt:77:1
 same-length-3 : tie.Need-same-length-3
 same-length-3 c = search needs
 
--- src/check.rt:77:1
 same-length-4 : tie.Need-same-length-4
 same-length-4 c = search needs
 
--- src/check.rt:77:1
 returns : tie.Need-returns
 returns c = search (needs, delayed-steps)
 

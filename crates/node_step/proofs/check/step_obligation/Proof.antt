@@ -8,83 +8,63 @@ use Rattle.node_step.proofs.check.open_window.Reads as open-window-read
 use Rattle.node_step.proofs.check.step_at_once.Reads as step-at-once-reads
 use Rattle.node_step.proofs.check.tick.Reads as tick-reads
 
--- src/check.rt:216:8
 slice-read-if1 : tie.Need-slice-read-if1
 slice-read-if1 c = search needs
 
--- src/check.rt:217:9
 returns : tie.Need-returns
 returns c = search (needs, owed-failed)
 
--- src/check.rt:220:9
 step-at-once-requires : tie.Need-step-at-once-requires
 step-at-once-requires c κs = search (needs, owed-at-once)
 
--- src/check.rt:220:9
 same-length : tie.Need-same-length
 same-length c = search needs
 
--- src/check.rt:220:9
 same-length-2 : tie.Need-same-length-2
 same-length-2 c = search needs
 
--- src/check.rt:220:9
 same-length-3 : tie.Need-same-length-3
 same-length-3 c = search needs
 
--- src/check.rt:220:9
 same-length-4 : tie.Need-same-length-4
 same-length-4 c = search needs
 
--- src/check.rt:220:9
 returns-2 : tie.Need-returns-2
 returns-2 c = search (needs, owed-zero)
 
--- src/check.rt:235:8
 open-window-requires : tie.Need-open-window-requires
 open-window-requires c κs = search (needs, owed-openable)
 
--- src/check.rt:249:9
 tick-requires : tie.Need-tick-requires
 tick-requires c κs = owed-tickable _ _ _ _ _ _ _ _ _ _ (c .before .before .before .before .before .before .before .before .before .before .before .before .before .before .before .before .before .before .before .before .before .before .before .before .before .pre) (search needs) (search needs) _ _ (c .before .before .before .before .before .before .before .before .before .before .before .before .open-window .ensures) (search needs)
 
--- src/check.rt:249:9
 same-length-5 : tie.Need-same-length-5
 same-length-5 c = search needs
 
--- src/check.rt:249:9
 same-length-6 : tie.Need-same-length-6
 same-length-6 c = search needs
 
--- src/check.rt:249:9
 same-length-7 : tie.Need-same-length-7
 same-length-7 c = search needs
 
--- src/check.rt:249:9
 same-length-8 : tie.Need-same-length-8
 same-length-8 c = search needs
 
--- src/check.rt:249:9
 returns-3 : tie.Need-returns-3
 returns-3 c = search (needs, owed-ticks)
 
--- src/check.rt:198:1
 same-length-9 : tie.Need-same-length-9
 same-length-9 c = search needs
 
--- src/check.rt:198:1
 same-length-10 : tie.Need-same-length-10
 same-length-10 c = search needs
 
--- src/check.rt:198:1
 same-length-11 : tie.Need-same-length-11
 same-length-11 c = search needs
 
--- src/check.rt:198:1
 same-length-12 : tie.Need-same-length-12
 same-length-12 c = search needs
 
--- src/check.rt:198:1
 returns-4 : tie.Need-returns-4
 returns-4 c = search (needs, owed-closed)
 

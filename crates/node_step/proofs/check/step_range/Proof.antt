@@ -7,31 +7,24 @@ use Rattle.node_step.proofs.check.step_range.Lts as lts
 use Rattle.monitor.proofs.range.AnchorRange.contains.Reads as contains-reads
 use Rattle.node_step.proofs.check.truth_of.Reads as truth-of-reads
 
--- src/check.rt:39:8
 contains-requires : tie.Need-contains-requires
 contains-requires c κs = search needs
 
--- src/check.rt:40:12
 truth-of-requires : tie.Need-truth-of-requires
 truth-of-requires c κs = search (needs, range-signal)
 
--- src/check.rt:41:13
 returns : tie.Need-returns
 returns c = search (needs, range-holds)
 
--- src/check.rt:43:9
 slice-write-failed : tie.Need-slice-write-failed
 slice-write-failed c = search needs
 
--- src/check.rt:44:9
 same-length : tie.Need-same-length
 same-length c = search needs
 
--- src/check.rt:44:9
 returns-2 : tie.Need-returns-2
 returns-2 c = search (needs, range-fails)
 
--- src/check.rt:23:1
 returns-3 : tie.Need-returns-3
 returns-3 c = search (needs, range-out)
 

@@ -6,23 +6,18 @@ use Rattle.node_step.proofs.check.truth_of.Reads as reads
 use Rattle.node_step.proofs.check.truth_of.Lts as lts
 use Rattle.formula.proofs.signal.value_at.Reads as value-at-reads
 
--- src/check.rt:24:24
 enum-known-e : tie.Need-enum-known-e
 enum-known-e c = search needs
 
--- src/check.rt:25:9
 enum-told : tie.Need-enum-told
 enum-told c = search needs
 
--- src/check.rt:25:9
 returns : tie.Need-returns
 returns c = search (needs, says-true)
 
--- src/check.rt:27:9
 value-at-requires : tie.Need-value-at-requires
 value-at-requires c κs = search (needs, signal-here)
 
--- src/check.rt:20:1
 returns-2 : tie.Need-returns-2
 returns-2 c = search (needs, says-value)
 

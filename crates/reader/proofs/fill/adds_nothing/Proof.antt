@@ -5,15 +5,12 @@ use Rattle.reader.proofs.fill.adds_nothing.Tie as tie
 use Rattle.reader.proofs.fill.adds_nothing.Reads as reads
 use Rattle.reader.proofs.fill.adds_nothing.Lts as lts
 
--- src/fill.rt:93:9
 returns : tie.Need-returns
 returns c = search (needs, told-empty)
 
--- src/fill.rt:95:5
 shared-slice-read-result : tie.Need-shared-slice-read-result
 shared-slice-read-result c = search needs
 
--- src/fill.rt:89:1
 returns-2 : tie.Need-returns-2
 returns-2 c = search (needs, told-first)
 

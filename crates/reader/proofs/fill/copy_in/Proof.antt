@@ -13,39 +13,30 @@ Inv-loop dst₀ at src j₀ dst j = Copying dst₀ at src dst j
 abbrev μ-loop : tie.MeasureT-loop
 μ-loop dst₀ at src j₀ dst j = length src - j
 
--- src/fill.rt:26:5
 loop-holds : tie.Need-loop-holds Inv-loop μ-loop
 loop-holds c = search (needs, copy-first)
 
--- src/fill.rt:27:23
 shared-slice-read-dst : tie.Need-shared-slice-read-dst Inv-loop μ-loop
 shared-slice-read-dst c = search needs
 
--- src/fill.rt:27:13
 add-dst : tie.Need-add-dst Inv-loop μ-loop
 add-dst c = search needs
 
--- src/fill.rt:27:9
 slice-write-dst : tie.Need-slice-write-dst Inv-loop μ-loop
 slice-write-dst c = search (needs, copy-in-dst)
 
--- src/fill.rt:28:9
 add-j : tie.Need-add-j Inv-loop μ-loop
 add-j c = search needs
 
--- src/fill.rt:26:5
 loop-less : tie.Need-loop-less Inv-loop μ-loop
 loop-less c = search needs
 
--- src/fill.rt:26:5
 loop-again : tie.Need-loop-again Inv-loop μ-loop
 loop-again c = search (needs, copy-next)
 
--- src/fill.rt:21:1
 same-length : tie.Need-same-length Inv-loop μ-loop
 same-length c = search (needs, copy-long)
 
--- src/fill.rt:21:1
 returns : tie.Need-returns Inv-loop μ-loop
 returns c = search (needs, copy-end)
 

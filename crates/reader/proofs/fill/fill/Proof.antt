@@ -21,107 +21,81 @@ abbrev μ-loop : tie.MeasureT-loop
 μ-loop text labels₀ lens₀ kinds₀ firsts₀ counts₀ ops₀ nums₀ f₀ at₀ labels lens kinds firsts counts ops nums f at =
     length text - at
 
--- src/fill.rt:145:5
 loop-holds : tie.Need-loop-holds Inv-loop μ-loop
 loop-holds c = search (needs, fill-first)
 
--- src/fill.rt:146:13
 past-requires : tie.Need-past-requires Inv-loop μ-loop
 past-requires c κs = search needs
 
--- src/fill.rt:147:13
 find-requires : tie.Need-find-requires Inv-loop μ-loop
 find-requires c κs = search needs
 
--- src/fill.rt:148:13
 upto-requires : tie.Need-upto-requires Inv-loop μ-loop
 upto-requires c κs = search needs
 
--- src/fill.rt:149:12
 adds-nothing-requires : tie.Need-adds-nothing-requires Inv-loop μ-loop
 adds-nothing-requires c κs = search needs
 
--- src/fill.rt:150:13
 same-length : tie.Need-same-length Inv-loop μ-loop
 same-length c = search (needs, kept-labels)
 
--- src/fill.rt:150:13
 same-length-2 : tie.Need-same-length-2 Inv-loop μ-loop
 same-length-2 c = search (needs, kept-lens)
 
--- src/fill.rt:150:13
 same-length-3 : tie.Need-same-length-3 Inv-loop μ-loop
 same-length-3 c = search (needs, kept-kinds)
 
--- src/fill.rt:150:13
 same-length-4 : tie.Need-same-length-4 Inv-loop μ-loop
 same-length-4 c = search (needs, kept-firsts)
 
--- src/fill.rt:150:13
 same-length-5 : tie.Need-same-length-5 Inv-loop μ-loop
 same-length-5 c = search (needs, kept-counts)
 
--- src/fill.rt:150:13
 same-length-6 : tie.Need-same-length-6 Inv-loop μ-loop
 same-length-6 c = search (needs, kept-ops)
 
--- src/fill.rt:150:13
 same-length-7 : tie.Need-same-length-7 Inv-loop μ-loop
 same-length-7 c = search (needs, kept-nums)
 
--- src/fill.rt:150:13
 returns : tie.Need-returns Inv-loop μ-loop
 returns c = search (needs, fill-stop)
 
--- src/fill.rt:152:9
 put-line-requires : tie.Need-put-line-requires Inv-loop μ-loop
 put-line-requires c κs = search (needs, fill-room)
 
--- src/fill.rt:163:15
 add-at : tie.Need-add-at Inv-loop μ-loop
 add-at c = search needs
 
--- src/fill.rt:163:9
 add-at-2 : tie.Need-add-at-2 Inv-loop μ-loop
 add-at-2 c = search (needs, fill-at)
 
--- src/fill.rt:145:5
 loop-less : tie.Need-loop-less Inv-loop μ-loop
 loop-less c = search (needs, fill-falls)
 
--- src/fill.rt:145:5
 loop-again : tie.Need-loop-again Inv-loop μ-loop
 loop-again c = search (needs, fill-next)
 
--- src/fill.rt:126:1
 same-length-8 : tie.Need-same-length-8 Inv-loop μ-loop
 same-length-8 c = search (needs, kept-labels)
 
--- src/fill.rt:126:1
 same-length-9 : tie.Need-same-length-9 Inv-loop μ-loop
 same-length-9 c = search (needs, kept-lens)
 
--- src/fill.rt:126:1
 same-length-10 : tie.Need-same-length-10 Inv-loop μ-loop
 same-length-10 c = search (needs, kept-kinds)
 
--- src/fill.rt:126:1
 same-length-11 : tie.Need-same-length-11 Inv-loop μ-loop
 same-length-11 c = search (needs, kept-firsts)
 
--- src/fill.rt:126:1
 same-length-12 : tie.Need-same-length-12 Inv-loop μ-loop
 same-length-12 c = search (needs, kept-counts)
 
--- src/fill.rt:126:1
 same-length-13 : tie.Need-same-length-13 Inv-loop μ-loop
 same-length-13 c = search (needs, kept-ops)
 
--- src/fill.rt:126:1
 same-length-14 : tie.Need-same-length-14 Inv-loop μ-loop
 same-length-14 c = search (needs, kept-nums)
 
--- src/fill.rt:126:1
 returns-2 : tie.Need-returns-2 Inv-loop μ-loop
 returns-2 c = search (needs, fill-end)
 

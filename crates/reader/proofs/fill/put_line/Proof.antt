@@ -10,75 +10,57 @@ use Rattle.line.proofs.text.upto.Reads as upto-reads
 use Rattle.reader.proofs.fill.put_node.Reads as put-node-reads
 use Rattle.reader.proofs.fill.put_rule.Reads as put-rule-reads
 
--- src/fill.rt:103:9
 read-line-requires : tie.Need-read-line-requires
 read-line-requires c κs = search needs
 
--- src/fill.rt:105:22
 enum-known-l : tie.Need-enum-known-l
 enum-known-l c = search needs
 
--- src/fill.rt:106:17
 past-requires : tie.Need-past-requires
 past-requires c κs = search (needs, rule-start)
 
--- src/fill.rt:107:17
 upto-requires : tie.Need-upto-requires
 upto-requires c κs = search (needs, rule-len)
 
--- src/fill.rt:108:13
 put-rule-requires : tie.Need-put-rule-requires
 put-rule-requires c κs = search (needs, line-rule-room)
 
--- src/fill.rt:110:22
 enum-known-l-2 : tie.Need-enum-known-l-2
 enum-known-l-2 c = search needs
 
--- src/fill.rt:110:35
 put-node-requires : tie.Need-put-node-requires
 put-node-requires c κs = search (needs, line-node-room)
 
--- src/fill.rt:89:1
 same-length : tie.Need-same-length
 same-length c = search needs
 
--- src/fill.rt:89:1
 same-length-2 : tie.Need-same-length-2
 same-length-2 c = search needs
 
--- src/fill.rt:89:1
 same-length-3 : tie.Need-same-length-3
 same-length-3 c = search needs
 
--- src/fill.rt:89:1
 same-length-4 : tie.Need-same-length-4
 same-length-4 c = search needs
 
--- src/fill.rt:89:1
 same-length-5 : tie.Need-same-length-5
 same-length-5 c = search needs
 
--- src/fill.rt:89:1
 returns : tie.Need-returns
 returns c = search (needs, line-rule-put)
 
--- src/fill.rt:89:1
 same-length-6 : tie.Need-same-length-6
 same-length-6 c = search needs
 
--- src/fill.rt:89:1
 same-length-7 : tie.Need-same-length-7
 same-length-7 c = search needs
 
--- src/fill.rt:89:1
 same-length-8 : tie.Need-same-length-8
 same-length-8 c = search needs
 
--- src/fill.rt:89:1
 returns-2 : tie.Need-returns-2
 returns-2 c = search (needs, line-node-put)
 
--- src/fill.rt:89:1
 returns-3 : tie.Need-returns-3
 returns-3 c = search (needs, line-kept)
 

@@ -7,55 +7,42 @@ use Rattle.reader.proofs.read.read_roomy.Lts as lts
 use Rattle.book.proofs.check.check.Reads as check-reads
 use Rattle.reader.proofs.fill.fill.Reads as fill-reads
 
--- src/read.rt:35:9
 check-requires : tie.Need-check-requires
 check-requires c κs = search needs
 
--- src/read.rt:37:28
 enum-known-c : tie.Need-enum-known-c
 enum-known-c c = search needs
 
--- src/read.rt:38:25
 enum-known-c-2 : tie.Need-enum-known-c-2
 enum-known-c-2 c = search needs
 
--- src/read.rt:39:13
 fill-requires : tie.Need-fill-requires
 fill-requires c κs = search (needs, read-fillable)
 
--- src/read.rt:22:1
 returns : tie.Need-returns
 returns c = search (needs, read-refused)
 
--- src/read.rt:22:1
 same-length : tie.Need-same-length
 same-length c = search needs
 
--- src/read.rt:22:1
 same-length-2 : tie.Need-same-length-2
 same-length-2 c = search needs
 
--- src/read.rt:22:1
 same-length-3 : tie.Need-same-length-3
 same-length-3 c = search needs
 
--- src/read.rt:22:1
 same-length-4 : tie.Need-same-length-4
 same-length-4 c = search needs
 
--- src/read.rt:22:1
 same-length-5 : tie.Need-same-length-5
 same-length-5 c = search needs
 
--- src/read.rt:22:1
 same-length-6 : tie.Need-same-length-6
 same-length-6 c = search needs
 
--- src/read.rt:22:1
 same-length-7 : tie.Need-same-length-7
 same-length-7 c = search needs
 
--- src/read.rt:22:1
 returns-2 : tie.Need-returns-2
 returns-2 c = search (needs, read-good)
 

@@ -6,67 +6,51 @@ use Rattle.reader.proofs.read.read_tested.Reads as reads
 use Rattle.reader.proofs.read.read_tested.Lts as lts
 use Rattle.reader.proofs.read.read_roomy.Reads as read-roomy-reads
 
--- src/read.rt:63:9
 returns : tie.Need-returns
 returns c = search (needs, short-labels)
 
--- src/read.rt:66:9
 returns-2 : tie.Need-returns-2
 returns-2 c = search (needs, short-lens)
 
--- src/read.rt:69:9
 returns-3 : tie.Need-returns-3
 returns-3 c = search (needs, short-kinds)
 
--- src/read.rt:72:9
 returns-4 : tie.Need-returns-4
 returns-4 c = search (needs, short-firsts)
 
--- src/read.rt:75:9
 returns-5 : tie.Need-returns-5
 returns-5 c = search (needs, short-counts)
 
--- src/read.rt:78:9
 returns-6 : tie.Need-returns-6
 returns-6 c = search (needs, short-ops)
 
--- src/read.rt:81:9
 returns-7 : tie.Need-returns-7
 returns-7 c = search (needs, short-nums)
 
--- src/read.rt:83:5
 read-roomy-requires : tie.Need-read-roomy-requires
 read-roomy-requires c κs = search needs
 
--- src/read.rt:50:1
 same-length : tie.Need-same-length
 same-length c = search needs
 
--- src/read.rt:50:1
 same-length-2 : tie.Need-same-length-2
 same-length-2 c = search needs
 
--- src/read.rt:50:1
 same-length-3 : tie.Need-same-length-3
 same-length-3 c = search needs
 
--- src/read.rt:50:1
 same-length-4 : tie.Need-same-length-4
 same-length-4 c = search needs
 
--- src/read.rt:50:1
 same-length-5 : tie.Need-same-length-5
 same-length-5 c = search needs
 
--- src/read.rt:50:1
 same-length-6 : tie.Need-same-length-6
 same-length-6 c = search needs
 
--- src/read.rt:50:1
 same-length-7 : tie.Need-same-length-7
 same-length-7 c = search needs
 
--- src/read.rt:50:1
 returns-8 : tie.Need-returns-8
 returns-8 c = search needs
 

@@ -9,47 +9,36 @@ use Rattle.line.proofs.text.find.Reads as find-reads
 use Rattle.line.proofs.text.past.Reads as past-reads
 use Rattle.line.proofs.text.upto.Reads as upto-reads
 
--- src/steps.rt:22:9
 returns : tie.Need-returns
 returns c = search (needs, next-past)
 
--- src/steps.rt:24:9
 past-requires : tie.Need-past-requires
 past-requires c κs = search needs
 
--- src/steps.rt:25:9
 find-requires : tie.Need-find-requires
 find-requires c κs = search needs
 
--- src/steps.rt:27:9
 returns-2 : tie.Need-returns-2
 returns-2 c = search (needs, next-unended)
 
--- src/steps.rt:29:23
 upto-requires : tie.Need-upto-requires
 upto-requires c κs = search needs
 
--- src/steps.rt:29:9
 read-line-requires : tie.Need-read-line-requires
 read-line-requires c κs = search needs
 
--- src/steps.rt:31:22
 enum-known-l : tie.Need-enum-known-l
 enum-known-l c = search needs
 
--- src/steps.rt:34:25
 add-t12 : tie.Need-add-t12
 add-t12 c = search needs
 
--- src/steps.rt:34:19
 add-t13 : tie.Need-add-t13
 add-t13 c = search needs
 
--- src/steps.rt:18:1
 returns-3 : tie.Need-returns-3
 returns-3 c = search (needs, next-step)
 
--- src/steps.rt:18:1
 returns-4 : tie.Need-returns-4
 returns-4 c = search (needs, next-other)
 

@@ -5,11 +5,9 @@ use Rattle.rule_lines.proofs.section.is_assumption.Tie as tie
 use Rattle.rule_lines.proofs.section.is_assumption.Reads as reads
 use Rattle.rule_lines.proofs.section.is_assumption.Lts as lts
 
--- src/section.rt:111:9
 returns : tie.Need-returns
 returns c = search (needs, kind-zero)
 
--- src/section.rt:107:1
 returns-2 : tie.Need-returns-2
 returns-2 c = search (needs, kind-other)
 

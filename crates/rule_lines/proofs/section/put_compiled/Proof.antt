@@ -6,27 +6,21 @@ use Rattle.rule_lines.proofs.section.put_compiled.Reads as reads
 use Rattle.rule_lines.proofs.section.put_compiled.Lts as lts
 use Rattle.node_lines.proofs.put_nodes.Reads as put-nodes-reads
 
--- src/section.rt:95:30
 enum-told : tie.Need-enum-told
 enum-told c = search needs
 
--- src/section.rt:95:13
 put-nodes-requires : tie.Need-put-nodes-requires
 put-nodes-requires c κs = search (needs, nodes-ready)
 
--- src/section.rt:95:13
 same-length : tie.Need-same-length
 same-length c = search needs
 
--- src/section.rt:95:13
 returns : tie.Need-returns
 returns c = search (needs, nodes-wrote)
 
--- src/section.rt:98:13
 enum-told-2 : tie.Need-enum-told-2
 enum-told-2 c = search needs
 
--- src/section.rt:98:13
 returns-2 : tie.Need-returns-2
 returns-2 c = search (needs, nodes-none)
 

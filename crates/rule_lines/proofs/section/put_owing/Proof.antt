@@ -6,35 +6,27 @@ use Rattle.rule_lines.proofs.section.put_owing.Reads as reads
 use Rattle.rule_lines.proofs.section.put_owing.Lts as lts
 use Rattle.live_lines.proofs.owe.put_owes.Reads as put-owes-reads
 
--- src/section.rt:29:13
 enum-told : tie.Need-enum-told
 enum-told c = search needs
 
--- src/section.rt:29:13
 returns : tie.Need-returns
 returns c = search (needs, owing-none)
 
--- src/section.rt:32:13
 enum-told-2 : tie.Need-enum-told-2
 enum-told-2 c = search needs
 
--- src/section.rt:32:13
 returns-2 : tie.Need-returns-2
 returns-2 c = search (needs, owing-refused)
 
--- src/section.rt:36:19
 enum-known-answer : tie.Need-enum-known-answer
 enum-known-answer c = search needs
 
--- src/section.rt:38:13
 put-owes-requires : tie.Need-put-owes-requires
 put-owes-requires c κs = search (needs, owes-asked)
 
--- src/section.rt:38:13
 same-length : tie.Need-same-length
 same-length c = search needs
 
--- src/section.rt:38:13
 returns-3 : tie.Need-returns-3
 returns-3 c = search (needs, owes-wrote)
 

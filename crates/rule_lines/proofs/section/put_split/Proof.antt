@@ -8,39 +8,30 @@ use Rattle.live_lines.proofs.live.put_live.Reads as put-live-reads
 use Rattle.rule_lines.proofs.section.put_owing.Reads as put-owing-reads
 use Rattle.split.proofs.parts.split.Reads as split-reads
 
--- src/section.rt:64:9
 slice-aggregate-split : tie.Need-slice-aggregate-split
 slice-aggregate-split c = search needs
 
--- src/section.rt:65:9
 slice-aggregate-split-2 : tie.Need-slice-aggregate-split-2
 slice-aggregate-split-2 c = search needs
 
--- src/section.rt:58:9
 split-requires : tie.Need-split-requires
 split-requires c κs = search needs
 
--- src/section.rt:67:54
 slice-aggregate-put-live : tie.Need-slice-aggregate-put-live
 slice-aggregate-put-live c = search needs
 
--- src/section.rt:67:9
 put-live-requires : tie.Need-put-live-requires
 put-live-requires c κs = search (needs, live-ready)
 
--- src/section.rt:68:72
 slice-aggregate-put-owing : tie.Need-slice-aggregate-put-owing
 slice-aggregate-put-owing c = search needs
 
--- src/section.rt:68:5
 put-owing-requires : tie.Need-put-owing-requires
 put-owing-requires c κs = search (needs, owing, c .before .before .before .before .before .before .before .before .before .split .kept, c .before .before .before .before .before .before .before .before .before .before .before .before .before .before .before .pre)
 
--- src/section.rt:44:1
 same-length : tie.Need-same-length
 same-length c = search needs
 
--- src/section.rt:44:1
 returns : tie.Need-returns
 returns c = search (needs, split-wrote)
 

@@ -14,31 +14,24 @@ Inv-loop ops nums firsts counts n nodes₀ ncounts₀ refusals₀ r₀ nodes nco
 abbrev μ-loop : tie.MeasureT-loop
 μ-loop ops nums firsts counts n nodes₀ ncounts₀ refusals₀ r₀ nodes ncounts refusals r = n - r
 
--- src/compile.rt:53:5
 loop-holds : tie.Need-loop-holds Inv-loop μ-loop
 loop-holds c = search needs
 
--- src/compile.rt:54:9
 compile-one-requires : tie.Need-compile-one-requires Inv-loop μ-loop
 compile-one-requires c κs = search needs
 
--- src/compile.rt:55:9
 add-r : tie.Need-add-r Inv-loop μ-loop
 add-r c = search needs
 
--- src/compile.rt:53:5
 loop-less : tie.Need-loop-less Inv-loop μ-loop
 loop-less c = search needs
 
--- src/compile.rt:53:5
 loop-again : tie.Need-loop-again Inv-loop μ-loop
 loop-again c = search needs
 
--- src/compile.rt:42:1
 same-length : tie.Need-same-length Inv-loop μ-loop
 same-length c = search needs
 
--- src/compile.rt:42:1
 returns : tie.Need-returns Inv-loop μ-loop
 returns c = search needs
 

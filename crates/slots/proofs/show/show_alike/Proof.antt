@@ -12,27 +12,21 @@ Inv-loop ops nums nodes firsts counts ncounts refusals n r₀ r = Unit {0}
 abbrev μ-loop : tie.MeasureT-loop
 μ-loop ops nums nodes firsts counts ncounts refusals n r₀ r = n - r
 
--- src/show.rt:220:5
 loop-holds : tie.Need-loop-holds Inv-loop μ-loop
 loop-holds c = search needs
 
--- src/show.rt:221:9
 show-alike-to-requires : tie.Need-show-alike-to-requires Inv-loop μ-loop
 show-alike-to-requires c κs = search needs
 
--- src/show.rt:222:9
 add-r : tie.Need-add-r Inv-loop μ-loop
 add-r c = search needs
 
--- src/show.rt:220:5
 loop-less : tie.Need-loop-less Inv-loop μ-loop
 loop-less c = search needs
 
--- src/show.rt:220:5
 loop-again : tie.Need-loop-again Inv-loop μ-loop
 loop-again c = search needs
 
--- src/show.rt:209:1
 returns : tie.Need-returns Inv-loop μ-loop
 returns c = search needs
 

@@ -13,43 +13,33 @@ Inv-loop ops nums nodes firsts counts ncounts refusals r b q₀ q = Unit {0}
 abbrev μ-loop : tie.MeasureT-loop
 μ-loop ops nums nodes firsts counts ncounts refusals r b q₀ q = r - q
 
--- src/show.rt:191:8
 mul-if1 : tie.Need-mul-if1 Inv-loop μ-loop
 mul-if1 c = search needs
 
--- src/show.rt:191:8
 element-copy-out-if1 : tie.Need-element-copy-out-if1 Inv-loop μ-loop
 element-copy-out-if1 c = search needs
 
--- src/show.rt:192:9
 returns : tie.Need-returns Inv-loop μ-loop
 returns c = search needs
 
--- src/show.rt:194:9
 part-at-requires : tie.Need-part-at-requires Inv-loop μ-loop
 part-at-requires c κs = search needs
 
--- src/show.rt:196:5
 loop-holds : tie.Need-loop-holds Inv-loop μ-loop
 loop-holds c = search needs
 
--- src/show.rt:197:9
 show-alike-at-requires : tie.Need-show-alike-at-requires Inv-loop μ-loop
 show-alike-at-requires c κs = search needs
 
--- src/show.rt:198:9
 add-q : tie.Need-add-q Inv-loop μ-loop
 add-q c = search needs
 
--- src/show.rt:196:5
 loop-less : tie.Need-loop-less Inv-loop μ-loop
 loop-less c = search needs
 
--- src/show.rt:196:5
 loop-again : tie.Need-loop-again Inv-loop μ-loop
 loop-again c = search needs
 
--- src/show.rt:179:1
 returns-2 : tie.Need-returns-2 Inv-loop μ-loop
 returns-2 c = search needs
 

@@ -12,27 +12,21 @@ Inv-loop ops nums nodes a r j₀ j = Unit {0}
 abbrev μ-loop : tie.MeasureT-loop
 μ-loop ops nums nodes a r j₀ j = a .ncount - j
 
--- src/show.rt:71:5
 loop-holds : tie.Need-loop-holds Inv-loop μ-loop
 loop-holds c = search needs
 
--- src/show.rt:72:9
 show-slot-requires : tie.Need-show-slot-requires Inv-loop μ-loop
 show-slot-requires c κs = search needs
 
--- src/show.rt:73:9
 add-j : tie.Need-add-j Inv-loop μ-loop
 add-j c = search needs
 
--- src/show.rt:71:5
 loop-less : tie.Need-loop-less Inv-loop μ-loop
 loop-less c = search needs
 
--- src/show.rt:71:5
 loop-again : tie.Need-loop-again Inv-loop μ-loop
 loop-again c = search needs
 
--- src/show.rt:69:1
 returns : tie.Need-returns Inv-loop μ-loop
 returns c = search needs
 

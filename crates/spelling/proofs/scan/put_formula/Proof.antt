@@ -7,31 +7,24 @@ use Rattle.spelling.proofs.scan.put_formula.Lts as lts
 use Rattle.formula.proofs.signal.pure_at.Reads as pure-at-reads
 use Rattle.spelling.proofs.scan.put_run.Reads as put-run-reads
 
--- src/scan.rt:77:9
 pure-at-requires : tie.Need-pure-at-requires
 pure-at-requires c κs = search needs
 
--- src/scan.rt:78:20
 enum-known-walk : tie.Need-enum-known-walk
 enum-known-walk c = search needs
 
--- src/scan.rt:79:9
 enum-told : tie.Need-enum-told
 enum-told c = search needs
 
--- src/scan.rt:79:9
 returns : tie.Need-returns
 returns c = search (needs, formula-stuck)
 
--- src/scan.rt:81:5
 put-run-requires : tie.Need-put-run-requires
 put-run-requires c κs = search (needs, formula-inside)
 
--- src/scan.rt:73:1
 same-length : tie.Need-same-length
 same-length c = search needs
 
--- src/scan.rt:73:1
 returns-2 : tie.Need-returns-2
 returns-2 c = search (needs, formula-spelled)
 

@@ -6,39 +6,30 @@ use Rattle.spelling.proofs.scan.put_letter.Reads as reads
 use Rattle.spelling.proofs.scan.put_letter.Lts as lts
 use Rattle.text.proofs.write.put_byte.Reads as put-byte-reads
 
--- src/scan.rt:20:9
 put-byte-requires : tie.Need-put-byte-requires
 put-byte-requires c κs = search needs
 
--- src/scan.rt:20:9
 same-length : tie.Need-same-length
 same-length c = search needs
 
--- src/scan.rt:20:9
 returns : tie.Need-returns
 returns c = search (needs, letter-var)
 
--- src/scan.rt:23:9
 put-byte-requires-2 : tie.Need-put-byte-requires-2
 put-byte-requires-2 c κs = search needs
 
--- src/scan.rt:23:9
 same-length-2 : tie.Need-same-length-2
 same-length-2 c = search needs
 
--- src/scan.rt:23:9
 returns-2 : tie.Need-returns-2
 returns-2 c = search (needs, letter-in)
 
--- src/scan.rt:25:5
 put-byte-requires-3 : tie.Need-put-byte-requires-3
 put-byte-requires-3 c κs = search needs
 
--- src/scan.rt:15:1
 same-length-3 : tie.Need-same-length-3
 same-length-3 c = search needs
 
--- src/scan.rt:15:1
 returns-3 : tie.Need-returns-3
 returns-3 c = search (needs, letter-out)
 

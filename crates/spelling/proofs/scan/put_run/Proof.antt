@@ -17,43 +17,33 @@ Inv-loop out₀ at ops nums i e owing place₀ j₀ out place j =
 abbrev μ-loop : tie.MeasureT-loop
 μ-loop out₀ at ops nums i e owing place₀ j₀ out place j = e - j
 
--- src/scan.rt:65:5
 loop-holds : tie.Need-loop-holds Inv-loop μ-loop
 loop-holds c = search (needs, scan-first)
 
--- src/scan.rt:66:38
 shared-slice-read-put-word : tie.Need-shared-slice-read-put-word Inv-loop μ-loop
 shared-slice-read-put-word c = search (needs, scan-in-ops)
 
--- src/scan.rt:66:46
 mul-put-word : tie.Need-mul-put-word Inv-loop μ-loop
 mul-put-word c = search needs
 
--- src/scan.rt:66:46
 shared-slice-read-put-word-2 : tie.Need-shared-slice-read-put-word-2 Inv-loop μ-loop
 shared-slice-read-put-word-2 c = search (needs, scan-in-nums)
 
--- src/scan.rt:66:9
 put-word-requires : tie.Need-put-word-requires Inv-loop μ-loop
 put-word-requires c κs = search needs
 
--- src/scan.rt:67:9
 add-j : tie.Need-add-j Inv-loop μ-loop
 add-j c = search needs
 
--- src/scan.rt:65:5
 loop-less : tie.Need-loop-less Inv-loop μ-loop
 loop-less c = search needs
 
--- src/scan.rt:65:5
 loop-again : tie.Need-loop-again Inv-loop μ-loop
 loop-again c = search (needs, scan-next)
 
--- src/scan.rt:59:1
 same-length : tie.Need-same-length Inv-loop μ-loop
 same-length c = search needs
 
--- src/scan.rt:59:1
 returns : tie.Need-returns Inv-loop μ-loop
 returns c = search (needs, scan-all)
 

@@ -8,91 +8,69 @@ use Rattle.spelling.proofs.scan.put_letter.Reads as put-letter-reads
 use Rattle.text.proofs.write.put_byte.Reads as put-byte-reads
 use Rattle.text.proofs.write.put_decimal.Reads as put-decimal-reads
 
--- src/scan.rt:33:13
 put-letter-requires : tie.Need-put-letter-requires
 put-letter-requires c κs = search needs
 
--- src/scan.rt:34:9
 put-decimal-requires : tie.Need-put-decimal-requires
 put-decimal-requires c κs = search needs
 
--- src/scan.rt:34:9
 same-length : tie.Need-same-length
 same-length c = search needs
 
--- src/scan.rt:34:9
 returns : tie.Need-returns
 returns c = search (needs, word-atom)
 
--- src/scan.rt:37:9
 put-byte-requires : tie.Need-put-byte-requires
 put-byte-requires c κs = search needs
 
--- src/scan.rt:37:9
 same-length-2 : tie.Need-same-length-2
 same-length-2 c = search needs
 
--- src/scan.rt:37:9
 returns-2 : tie.Need-returns-2
 returns-2 c = search (needs, word-not)
 
--- src/scan.rt:40:9
 returns-3 : tie.Need-returns-3
 returns-3 c = search (needs, word-none)
 
--- src/scan.rt:43:9
 put-byte-requires-2 : tie.Need-put-byte-requires-2
 put-byte-requires-2 c κs = search needs
 
--- src/scan.rt:43:9
 same-length-3 : tie.Need-same-length-3
 same-length-3 c = search needs
 
--- src/scan.rt:43:9
 returns-4 : tie.Need-returns-4
 returns-4 c = search (needs, word-and)
 
--- src/scan.rt:46:9
 put-byte-requires-3 : tie.Need-put-byte-requires-3
 put-byte-requires-3 c κs = search needs
 
--- src/scan.rt:46:9
 same-length-4 : tie.Need-same-length-4
 same-length-4 c = search needs
 
--- src/scan.rt:46:9
 returns-5 : tie.Need-returns-5
 returns-5 c = search (needs, word-or)
 
--- src/scan.rt:49:9
 returns-6 : tie.Need-returns-6
 returns-6 c = search (needs, word-past)
 
--- src/scan.rt:52:9
 put-byte-requires-4 : tie.Need-put-byte-requires-4
 put-byte-requires-4 c κs = search needs
 
--- src/scan.rt:52:9
 same-length-5 : tie.Need-same-length-5
 same-length-5 c = search needs
 
--- src/scan.rt:52:9
 returns-7 : tie.Need-returns-7
 returns-7 c = search (needs, word-owing)
 
--- src/scan.rt:54:9
 put-byte-requires-5 : tie.Need-put-byte-requires-5
 put-byte-requires-5 c κs = search needs
 
--- src/scan.rt:55:5
 put-byte-requires-6 : tie.Need-put-byte-requires-6
 put-byte-requires-6 c κs = search needs
 
--- src/scan.rt:29:1
 same-length-6 : tie.Need-same-length-6
 same-length-6 c = search needs
 
--- src/scan.rt:29:1
 returns-8 : tie.Need-returns-8
 returns-8 c = search (needs, word-implies)
 

@@ -8,75 +8,57 @@ use Rattle.monitor.proofs.table.is_compiled.Reads as is-compiled-reads
 use Rattle.lent.proofs.room.is_lent.Reads as is-lent-reads
 use Rattle.stepping.proofs.call.step_compiled.Reads as step-compiled-reads
 
--- src/call.rt:216:8
 is-lent-requires : tie.Need-is-lent-requires
 is-lent-requires c κs = search needs
 
--- src/call.rt:217:12
 is-compiled-requires : tie.Need-is-compiled-requires
 is-compiled-requires c κs = search needs
 
--- src/call.rt:218:13
 step-compiled-requires : tie.Need-step-compiled-requires
 step-compiled-requires c κs = known-here _ _ 0 0 _ (c .before .before .before .before .before .before .before .is-lent .ensures) (c .before .before .before .before .before .before .if1 .taken) _ (c .before .before .before .before .before .is-compiled .ensures) (c .before .before .before .before .if2 .taken)
 
--- src/call.rt:218:13
 same-length : tie.Need-same-length
 same-length c = search needs
 
--- src/call.rt:218:13
 same-length-2 : tie.Need-same-length-2
 same-length-2 c = search needs
 
--- src/call.rt:218:13
 same-length-3 : tie.Need-same-length-3
 same-length-3 c = search needs
 
--- src/call.rt:218:13
 same-length-4 : tie.Need-same-length-4
 same-length-4 c = search needs
 
--- src/call.rt:218:13
 returns : tie.Need-returns
 returns c = search (needs, call-goes-on)
 
--- src/call.rt:220:9
 same-length-5 : tie.Need-same-length-5
 same-length-5 c = search needs
 
--- src/call.rt:220:9
 same-length-6 : tie.Need-same-length-6
 same-length-6 c = search needs
 
--- src/call.rt:220:9
 same-length-7 : tie.Need-same-length-7
 same-length-7 c = search needs
 
--- src/call.rt:220:9
 same-length-8 : tie.Need-same-length-8
 same-length-8 c = search needs
 
--- src/call.rt:220:9
 returns-2 : tie.Need-returns-2
 returns-2 c = search (needs, not-compiled)
 
--- src/call.rt:213:1
 same-length-9 : tie.Need-same-length-9
 same-length-9 c = search needs
 
--- src/call.rt:213:1
 same-length-10 : tie.Need-same-length-10
 same-length-10 c = search needs
 
--- src/call.rt:213:1
 same-length-11 : tie.Need-same-length-11
 same-length-11 c = search needs
 
--- src/call.rt:213:1
 same-length-12 : tie.Need-same-length-12
 same-length-12 c = search needs
 
--- src/call.rt:213:1
 returns-3 : tie.Need-returns-3
 returns-3 c = search (needs, not-lent)
 

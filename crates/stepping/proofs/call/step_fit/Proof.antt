@@ -8,55 +8,42 @@ use Rattle.stepping.proofs.call.step_fit.Reads as reads
 use Rattle.stepping.proofs.call.step_fit.Lts as lts
 use Rattle.stepping.proofs.walk.step_node.Reads as step-node-reads
 
--- src/call.rt:188:18
 slice-read-before : tie.Need-slice-read-before
 slice-read-before c = search (needs, fit-first)
 
--- src/call.rt:189:5
 step-node-requires : tie.Need-step-node-requires
 step-node-requires c κs = search (needs, fit-walk)
 
--- src/call.rt:191:9
 same-length : tie.Need-same-length
 same-length c = search needs
 
--- src/call.rt:191:9
 same-length-2 : tie.Need-same-length-2
 same-length-2 c = search needs
 
--- src/call.rt:191:9
 same-length-3 : tie.Need-same-length-3
 same-length-3 c = search needs
 
--- src/call.rt:191:9
 same-length-4 : tie.Need-same-length-4
 same-length-4 c = search needs
 
--- src/call.rt:191:9
 returns : tie.Need-returns
 returns c = search (needs, already-broken)
 
--- src/call.rt:193:23
 slice-read-t19 : tie.Need-slice-read-t19
 slice-read-t19 c = subst (λ (n : ℕ). 0 < n) (sym (c .before .before .before .before .before .before .before .before .before .step-node .kept .1 .1 .1 .1 .1 .1 .0)) (fit-first _ _ _ (c .before .before .before .before .before .before .before .before .before .before .before .before .before .before .before .before .before .before .before .before .before .before .before .pre))
 
--- src/call.rt:184:1
 same-length-5 : tie.Need-same-length-5
 same-length-5 c = search needs
 
--- src/call.rt:184:1
 same-length-6 : tie.Need-same-length-6
 same-length-6 c = search needs
 
--- src/call.rt:184:1
 same-length-7 : tie.Need-same-length-7
 same-length-7 c = search needs
 
--- src/call.rt:184:1
 same-length-8 : tie.Need-same-length-8
 same-length-8 c = search needs
 
--- src/call.rt:184:1
 returns-2 : tie.Need-returns-2
 returns-2 c = newly-broken _ _ _ (c .before .before .before .before .before .before .before .before .before .before .before .before .before .before .before .before .before .before .before .before .before .before .before .pre) _ _ _ (c .before .before .before .before .before .before .before .before .before .step-node .ensures) (c .before .if1 .left)
 

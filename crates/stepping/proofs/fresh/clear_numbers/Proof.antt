@@ -13,35 +13,27 @@ Inv-loop l₀ n k₀ l k = Stored (λ j. replicate j 0) l₀ n l k
 abbrev μ-loop : tie.MeasureT-loop
 μ-loop l₀ n k₀ l k = n - k
 
--- src/fresh.rt:35:5
 loop-holds : tie.Need-loop-holds Inv-loop μ-loop
 loop-holds c = search (needs, clear-start)
 
--- src/fresh.rt:36:9
 mul-l : tie.Need-mul-l Inv-loop μ-loop
 mul-l c = search (needs, stored-in)
 
--- src/fresh.rt:36:9
 slice-write-l : tie.Need-slice-write-l Inv-loop μ-loop
 slice-write-l c = search (needs, stored-in)
 
--- src/fresh.rt:37:9
 add-k : tie.Need-add-k Inv-loop μ-loop
 add-k c = search needs
 
--- src/fresh.rt:35:5
 loop-less : tie.Need-loop-less Inv-loop μ-loop
 loop-less c = search needs
 
--- src/fresh.rt:35:5
 loop-again : tie.Need-loop-again Inv-loop μ-loop
 loop-again c = search (needs, clear-more)
 
--- src/fresh.rt:30:1
 same-length : tie.Need-same-length Inv-loop μ-loop
 same-length c = search (needs, stored-same)
 
--- src/fresh.rt:30:1
 returns : tie.Need-returns Inv-loop μ-loop
 returns c = stored-all _ _ _ _ _ (c .before .loop .inv) (c .loop-test .left)
 

@@ -13,55 +13,42 @@ Inv-loop nodes col nfirst out₀ n k₀ out k = Stored (column nodes col nfirst)
 abbrev μ-loop : tie.MeasureT-loop
 μ-loop nodes col nfirst out₀ n k₀ out k = n - k
 
--- src/fresh.rt:58:5
 loop-holds : tie.Need-loop-holds Inv-loop μ-loop
 loop-holds c = search (needs, column-start)
 
--- src/fresh.rt:59:29
 add-out : tie.Need-add-out Inv-loop μ-loop
 add-out c = search needs
 
--- src/fresh.rt:59:24
 mul-out : tie.Need-mul-out Inv-loop μ-loop
 mul-out c = search (needs, stored-in)
 
--- src/fresh.rt:59:24
 add-out-2 : tie.Need-add-out-2 Inv-loop μ-loop
 add-out-2 c = search needs
 
--- src/fresh.rt:59:18
 mul-out-2 : tie.Need-mul-out-2 Inv-loop μ-loop
 mul-out-2 c = search needs
 
--- src/fresh.rt:59:18
 shared-slice-read-out : tie.Need-shared-slice-read-out Inv-loop μ-loop
 shared-slice-read-out c = search needs
 
--- src/fresh.rt:59:9
 mul-out-3 : tie.Need-mul-out-3 Inv-loop μ-loop
 mul-out-3 c = search needs
 
--- src/fresh.rt:59:9
 slice-write-out : tie.Need-slice-write-out Inv-loop μ-loop
 slice-write-out c = search (needs, stored-in)
 
--- src/fresh.rt:60:9
 add-k : tie.Need-add-k Inv-loop μ-loop
 add-k c = search needs
 
--- src/fresh.rt:58:5
 loop-less : tie.Need-loop-less Inv-loop μ-loop
 loop-less c = search needs
 
--- src/fresh.rt:58:5
 loop-again : tie.Need-loop-again Inv-loop μ-loop
 loop-again c = search (needs, column-next)
 
--- src/fresh.rt:53:1
 same-length : tie.Need-same-length Inv-loop μ-loop
 same-length c = search (needs, stored-same)
 
--- src/fresh.rt:53:1
 returns : tie.Need-returns Inv-loop μ-loop
 returns c = stored-all _ _ _ _ _ (c .before .loop .inv) (c .loop-test .left)
 

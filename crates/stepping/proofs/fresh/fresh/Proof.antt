@@ -8,99 +8,75 @@ use Rattle.monitor.proofs.table.is_compiled.Reads as is-compiled-reads
 use Rattle.lent.proofs.room.is_lent.Reads as is-lent-reads
 use Rattle.stepping.proofs.fresh.make.Reads as make-reads
 
--- src/fresh.rt:80:8
 is-lent-requires : tie.Need-is-lent-requires
 is-lent-requires c κs = search needs
 
--- src/fresh.rt:81:12
 is-compiled-requires : tie.Need-is-compiled-requires
 is-compiled-requires c κs = search needs
 
--- src/fresh.rt:82:13
 make-requires : tie.Need-make-requires
 make-requires c κs = make-ready (record { ops = c .before .before .before .before .before .before .before .before .before .before .before .before .before .before .before .before .before .before .before .before .before .before .before .before .args .ops .now; nums = c .before .before .before .before .before .before .before .before .before .before .before .before .before .before .before .before .before .before .before .before .before .before .before .before .args .nums .now; first = c .before .before .before .before .before .before .before .before .before .before .before .before .before .before .before .before .before .before .before .before .before .before .before .before .args .first; count = c .before .before .before .before .before .before .before .before .before .before .before .before .before .before .before .before .before .before .before .before .before .before .before .before .args .count; nodes = c .before .before .before .before .before .before .before .before .before .before .before .before .before .before .before .before .before .before .before .before .before .before .before .before .args .nodes .now; nfirst = c .before .before .before .before .before .before .before .before .before .before .before .before .before .before .before .before .before .before .before .before .before .before .before .before .args .nfirst; ncount = c .before .before .before .before .before .before .before .before .before .before .before .before .before .before .before .before .before .before .before .before .before .before .before .before .args .ncount }) _ _ _ _ (c .before .before .before .before .before .before .before .before .before .is-lent .ensures) (c .before .before .before .before .before .before .before .before .if1 .taken) _ (c .before .before .before .before .before .before .before .is-compiled .ensures) (c .before .before .before .before .before .before .if2 .taken)
 
--- src/fresh.rt:83:13
 same-length : tie.Need-same-length
 same-length c = search needs
 
--- src/fresh.rt:83:13
 same-length-2 : tie.Need-same-length-2
 same-length-2 c = search needs
 
--- src/fresh.rt:83:13
 same-length-3 : tie.Need-same-length-3
 same-length-3 c = search needs
 
--- src/fresh.rt:83:13
 same-length-4 : tie.Need-same-length-4
 same-length-4 c = search needs
 
--- src/fresh.rt:83:13
 same-length-5 : tie.Need-same-length-5
 same-length-5 c = search needs
 
--- src/fresh.rt:83:13
 same-length-6 : tie.Need-same-length-6
 same-length-6 c = search needs
 
--- src/fresh.rt:83:13
 returns : tie.Need-returns
 returns c = search (needs, made-all)
 
--- src/fresh.rt:85:9
 same-length-7 : tie.Need-same-length-7
 same-length-7 c = search needs
 
--- src/fresh.rt:85:9
 same-length-8 : tie.Need-same-length-8
 same-length-8 c = search needs
 
--- src/fresh.rt:85:9
 same-length-9 : tie.Need-same-length-9
 same-length-9 c = search needs
 
--- src/fresh.rt:85:9
 same-length-10 : tie.Need-same-length-10
 same-length-10 c = search needs
 
--- src/fresh.rt:85:9
 same-length-11 : tie.Need-same-length-11
 same-length-11 c = search needs
 
--- src/fresh.rt:85:9
 same-length-12 : tie.Need-same-length-12
 same-length-12 c = search needs
 
--- src/fresh.rt:85:9
 returns-2 : tie.Need-returns-2
 returns-2 c = search (needs, made-none)
 
--- src/fresh.rt:77:1
 same-length-13 : tie.Need-same-length-13
 same-length-13 c = search needs
 
--- src/fresh.rt:77:1
 same-length-14 : tie.Need-same-length-14
 same-length-14 c = search needs
 
--- src/fresh.rt:77:1
 same-length-15 : tie.Need-same-length-15
 same-length-15 c = search needs
 
--- src/fresh.rt:77:1
 same-length-16 : tie.Need-same-length-16
 same-length-16 c = search needs
 
--- src/fresh.rt:77:1
 same-length-17 : tie.Need-same-length-17
 same-length-17 c = search needs
 
--- src/fresh.rt:77:1
 same-length-18 : tie.Need-same-length-18
 same-length-18 c = search needs
 
--- src/fresh.rt:77:1
 returns-3 : tie.Need-returns-3
 returns-3 c = search (needs, made-short)
 

@@ -9,55 +9,42 @@ use Rattle.stepping.proofs.fresh.clear_flags.Reads as clear-flags-reads
 use Rattle.stepping.proofs.fresh.clear_numbers.Reads as clear-numbers-reads
 use Rattle.stepping.proofs.fresh.copy_column.Reads as copy-column-reads
 
--- src/fresh.rt:68:5
 copy-column-requires : tie.Need-copy-column-requires
 copy-column-requires c κs = search needs
 
--- src/fresh.rt:69:5
 copy-column-requires-2 : tie.Need-copy-column-requires-2
 copy-column-requires-2 c κs = search needs
 
--- src/fresh.rt:70:5
 clear-flags-requires : tie.Need-clear-flags-requires
 clear-flags-requires c κs = search needs
 
--- src/fresh.rt:71:5
 clear-numbers-requires : tie.Need-clear-numbers-requires
 clear-numbers-requires c κs = search needs
 
--- src/fresh.rt:72:5
 clear-flags-requires-2 : tie.Need-clear-flags-requires-2
 clear-flags-requires-2 c κs = search needs
 
--- src/fresh.rt:73:5
 clear-culprits-requires : tie.Need-clear-culprits-requires
 clear-culprits-requires c κs = search needs
 
--- src/fresh.rt:64:1
 same-length : tie.Need-same-length
 same-length c = search needs
 
--- src/fresh.rt:64:1
 same-length-2 : tie.Need-same-length-2
 same-length-2 c = search needs
 
--- src/fresh.rt:64:1
 same-length-3 : tie.Need-same-length-3
 same-length-3 c = search needs
 
--- src/fresh.rt:64:1
 same-length-4 : tie.Need-same-length-4
 same-length-4 c = search needs
 
--- src/fresh.rt:64:1
 same-length-5 : tie.Need-same-length-5
 same-length-5 c = search needs
 
--- src/fresh.rt:64:1
 same-length-6 : tie.Need-same-length-6
 same-length-6 c = search needs
 
--- src/fresh.rt:64:1
 returns : tie.Need-returns
 returns c = search (needs, made)
 

@@ -40,7 +40,6 @@ abbrev step-pair-below : ℕ → In 7 step-pair-kinds.ps
 step-pair-below t =
     and 7 step-pair-kinds.ps (falls 7 step-pair-kinds.ps _<_ μ-step-pair t) step-pair.Pre
 
--- src/walk.rt:216:41
 step-node-add-row-at : (t : ℕ) → step-node-lts.Need-add-row-at (
   row-at-reads.Asked,
   row-at-reads.Learnt,
@@ -53,7 +52,6 @@ step-node-add-row-at : (t : ℕ) → step-node-lts.Need-add-row-at (
 ) (step-node-at t) step-node.Post
 step-node-add-row-at t c = search needs
 
--- src/walk.rt:216:27
 step-node-row-at-requires : (t : ℕ) → step-node-lts.Need-row-at-requires (
   row-at-reads.Asked,
   row-at-reads.Learnt,
@@ -66,7 +64,6 @@ step-node-row-at-requires : (t : ℕ) → step-node-lts.Need-row-at-requires (
 ) (step-node-at t) step-node.Post
 step-node-row-at-requires t c κs = walk-row _ _ _ _ _ _ _ (c .before .before .before .before .before .before .pre .1)
 
--- src/walk.rt:216:19
 step-node-enum-known-node : (t : ℕ) → step-node-lts.Need-enum-known-node (
   row-at-reads.Asked,
   row-at-reads.Learnt,
@@ -79,7 +76,6 @@ step-node-enum-known-node : (t : ℕ) → step-node-lts.Need-enum-known-node (
 ) (step-node-at t) step-node.Post
 step-node-enum-known-node t c = search needs
 
--- src/walk.rt:219:19
 step-node-enum-told : (t : ℕ) → step-node-lts.Need-enum-told (
   row-at-reads.Asked,
   row-at-reads.Learnt,
@@ -92,7 +88,6 @@ step-node-enum-told : (t : ℕ) → step-node-lts.Need-enum-told (
 ) (step-node-at t) step-node.Post
 step-node-enum-told t c = search needs
 
--- src/walk.rt:219:19
 step-node-add-t16 : (t : ℕ) → step-node-lts.Need-add-t16 (
   row-at-reads.Asked,
   row-at-reads.Learnt,
@@ -105,7 +100,6 @@ step-node-add-t16 : (t : ℕ) → step-node-lts.Need-add-t16 (
 ) (step-node-at t) step-node.Post
 step-node-add-t16 t c = search needs
 
--- src/walk.rt:217:9
 step-node-returns : (t : ℕ) → step-node-lts.Need-returns (
   row-at-reads.Asked,
   row-at-reads.Learnt,
@@ -118,7 +112,6 @@ step-node-returns : (t : ℕ) → step-node-lts.Need-returns (
 ) (step-node-at t) step-node.Post
 step-node-returns t c = no-row _ _ _ _ _ _ _ (c .before .before .before .before .before .before .before .before .before .pre .1) _ _ _ _ (c .before .before .row-at .ensures) (search needs)
 
--- src/walk.rt:222:30
 step-node-parts-of-requires : (t : ℕ) → step-node-lts.Need-parts-of-requires (
   row-at-reads.Asked,
   row-at-reads.Learnt,
@@ -131,7 +124,6 @@ step-node-parts-of-requires : (t : ℕ) → step-node-lts.Need-parts-of-requires
 ) (step-node-at t) step-node.Post
 step-node-parts-of-requires t c κs = search needs
 
--- src/walk.rt:222:23
 step-node-enum-known-any : (t : ℕ) → step-node-lts.Need-enum-known-any (
   row-at-reads.Asked,
   row-at-reads.Learnt,
@@ -144,7 +136,6 @@ step-node-enum-known-any : (t : ℕ) → step-node-lts.Need-enum-known-any (
 ) (step-node-at t) step-node.Post
 step-node-enum-known-any t c = search needs
 
--- src/walk.rt:228:13
 step-node-enum-told-2 : (t : ℕ) → step-node-lts.Need-enum-told-2 (
   row-at-reads.Asked,
   row-at-reads.Learnt,
@@ -157,7 +148,6 @@ step-node-enum-told-2 : (t : ℕ) → step-node-lts.Need-enum-told-2 (
 ) (step-node-at t) step-node.Post
 step-node-enum-told-2 t c = search needs
 
--- src/walk.rt:223:9
 step-node-step-leaf-requires : (t : ℕ) → step-node-lts.Need-step-leaf-requires (
   row-at-reads.Asked,
   row-at-reads.Learnt,
@@ -170,7 +160,6 @@ step-node-step-leaf-requires : (t : ℕ) → step-node-lts.Need-step-leaf-requir
 ) (step-node-at t) step-node.Post
 step-node-step-leaf-requires t c κs = leaf-ready _ _ _ _ _ _ _ (c .before .before .before .before .before .before .before .before .before .before .before .before .before .before .before .before .before .pre .1) _ _ _ (c .before .before .before .before .before .before .before .before .before .before .row-at .ensures) (search needs) (c .before .before .before .before .before .before .parts-of .ensures) (search needs)
 
--- src/walk.rt:223:9
 step-node-same-length : (t : ℕ) → step-node-lts.Need-same-length (
   row-at-reads.Asked,
   row-at-reads.Learnt,
@@ -183,7 +172,6 @@ step-node-same-length : (t : ℕ) → step-node-lts.Need-same-length (
 ) (step-node-at t) step-node.Post
 step-node-same-length t c = search needs
 
--- src/walk.rt:223:9
 step-node-same-length-2 : (t : ℕ) → step-node-lts.Need-same-length-2 (
   row-at-reads.Asked,
   row-at-reads.Learnt,
@@ -196,7 +184,6 @@ step-node-same-length-2 : (t : ℕ) → step-node-lts.Need-same-length-2 (
 ) (step-node-at t) step-node.Post
 step-node-same-length-2 t c = search needs
 
--- src/walk.rt:223:9
 step-node-same-length-3 : (t : ℕ) → step-node-lts.Need-same-length-3 (
   row-at-reads.Asked,
   row-at-reads.Learnt,
@@ -209,7 +196,6 @@ step-node-same-length-3 : (t : ℕ) → step-node-lts.Need-same-length-3 (
 ) (step-node-at t) step-node.Post
 step-node-same-length-3 t c = search needs
 
--- src/walk.rt:223:9
 step-node-same-length-4 : (t : ℕ) → step-node-lts.Need-same-length-4 (
   row-at-reads.Asked,
   row-at-reads.Learnt,
@@ -222,7 +208,6 @@ step-node-same-length-4 : (t : ℕ) → step-node-lts.Need-same-length-4 (
 ) (step-node-at t) step-node.Post
 step-node-same-length-4 t c = search needs
 
--- src/walk.rt:223:9
 step-node-returns-2 : (t : ℕ) → step-node-lts.Need-returns-2 (
   row-at-reads.Asked,
   row-at-reads.Learnt,
@@ -235,7 +220,6 @@ step-node-returns-2 : (t : ℕ) → step-node-lts.Need-returns-2 (
 ) (step-node-at t) step-node.Post
 step-node-returns-2 t c = search needs
 
--- src/walk.rt:238:5
 step-node-step-pair-requires : (t : ℕ) → step-node-lts.Need-step-pair-requires (
   row-at-reads.Asked,
   row-at-reads.Learnt,
@@ -248,7 +232,6 @@ step-node-step-pair-requires : (t : ℕ) → step-node-lts.Need-step-pair-requir
 ) (step-node-at t) step-node.Post
 step-node-step-pair-requires t c κs = (walk-falls _ _ _ _ _ _ _ (c .before .before .before .before .before .before .before .before .before .before .before .before .before .before .before .before .before .before .pre .1) t (c .before .before .before .before .before .before .before .before .before .before .before .before .before .before .before .before .before .before .pre .0), pair-ready _ _ _ _ _ _ _ (c .before .before .before .before .before .before .before .before .before .before .before .before .before .before .before .before .before .before .pre .1) _ (c .before .before .before .before .before .before .before .before .before .node .given .0 .0) _ (c .before .before .before .before .before .before .before .before .before .before .before .row-at .ensures) (search needs) (c .before .before .before .before .before .before .before .parts-of .ensures) _ (search needs))
 
--- src/walk.rt:200:1
 step-node-same-length-5 : (t : ℕ) → step-node-lts.Need-same-length-5 (
   row-at-reads.Asked,
   row-at-reads.Learnt,
@@ -261,7 +244,6 @@ step-node-same-length-5 : (t : ℕ) → step-node-lts.Need-same-length-5 (
 ) (step-node-at t) step-node.Post
 step-node-same-length-5 t c = search needs
 
--- src/walk.rt:200:1
 step-node-same-length-6 : (t : ℕ) → step-node-lts.Need-same-length-6 (
   row-at-reads.Asked,
   row-at-reads.Learnt,
@@ -274,7 +256,6 @@ step-node-same-length-6 : (t : ℕ) → step-node-lts.Need-same-length-6 (
 ) (step-node-at t) step-node.Post
 step-node-same-length-6 t c = search needs
 
--- src/walk.rt:200:1
 step-node-same-length-7 : (t : ℕ) → step-node-lts.Need-same-length-7 (
   row-at-reads.Asked,
   row-at-reads.Learnt,
@@ -287,7 +268,6 @@ step-node-same-length-7 : (t : ℕ) → step-node-lts.Need-same-length-7 (
 ) (step-node-at t) step-node.Post
 step-node-same-length-7 t c = search needs
 
--- src/walk.rt:200:1
 step-node-same-length-8 : (t : ℕ) → step-node-lts.Need-same-length-8 (
   row-at-reads.Asked,
   row-at-reads.Learnt,
@@ -300,7 +280,6 @@ step-node-same-length-8 : (t : ℕ) → step-node-lts.Need-same-length-8 (
 ) (step-node-at t) step-node.Post
 step-node-same-length-8 t c = search needs
 
--- src/walk.rt:200:1
 step-node-returns-3 : (t : ℕ) → step-node-lts.Need-returns-3 (
   row-at-reads.Asked,
   row-at-reads.Learnt,
@@ -313,7 +292,6 @@ step-node-returns-3 : (t : ℕ) → step-node-lts.Need-returns-3 (
 ) (step-node-at t) step-node.Post
 step-node-returns-3 t c = search needs
 
--- src/walk.rt:163:9
 step-pair-add-step-node : (t : ℕ) → step-pair-lts.Need-add-step-node (
   step-node-below t,
   step-node.Post,
@@ -324,7 +302,6 @@ step-pair-add-step-node : (t : ℕ) → step-pair-lts.Need-add-step-node (
 ) (step-pair-at t) step-pair.Post
 step-pair-add-step-node t c = pair-next-fits _ _ _ _ _ _ _ _ (c .before .before .before .before .before .before .before .before .before .before .pre .1) (c .before .before .before .before .before .before .before .before .before .before .good .1 .1 .1 .1 .0 .0)
 
--- src/walk.rt:154:9
 step-pair-step-node-requires : (t : ℕ) → step-pair-lts.Need-step-node-requires (
   step-node-below t,
   step-node.Post,
@@ -335,7 +312,6 @@ step-pair-step-node-requires : (t : ℕ) → step-pair-lts.Need-step-node-requir
 ) (step-pair-at t) step-pair.Post
 step-pair-step-node-requires t c κs = (left-falls _ _ _ _ _ _ _ _ (c .before .before .before .before .before .before .before .before .before .before .pre .1) t (c .before .before .before .before .before .before .before .before .before .before .pre .0), left-walk _ _ _ _ _ _ _ _ (c .before .before .before .before .before .before .before .before .before .before .pre .1))
 
--- src/walk.rt:168:9
 step-pair-step-node-requires-2 : (t : ℕ) → step-pair-lts.Need-step-node-requires-2 (
   step-node-below t,
   step-node.Post,
@@ -346,7 +322,6 @@ step-pair-step-node-requires-2 : (t : ℕ) → step-pair-lts.Need-step-node-requ
 ) (step-pair-at t) step-pair.Post
 step-pair-step-node-requires-2 t c κs = (right-falls _ _ _ _ _ _ _ _ (c .before .before .before .before .before .before .before .before .before .before .before .before .before .before .before .before .before .before .before .before .before .before .pre .1) _ _ _ (c .before .before .before .before .before .before .before .before .before .before .before .step-node .ensures) t (c .before .before .before .before .before .before .before .before .before .before .before .before .before .before .before .before .before .before .before .before .before .before .pre .0), right-walk _ _ _ _ _ _ _ _ (c .before .before .before .before .before .before .before .before .before .before .before .before .before .before .before .before .before .before .before .before .before .before .pre .1) _ _ _ (c .before .before .before .before .before .before .before .before .before .before .before .step-node .ensures))
 
--- src/walk.rt:181:9
 step-pair-joined-now-requires : (t : ℕ) → step-pair-lts.Need-joined-now-requires (
   step-node-below t,
   step-node.Post,
@@ -357,7 +332,6 @@ step-pair-joined-now-requires : (t : ℕ) → step-pair-lts.Need-joined-now-requ
 ) (step-pair-at t) step-pair.Post
 step-pair-joined-now-requires t c κs = search needs
 
--- src/walk.rt:182:5
 step-pair-finish-requires : (t : ℕ) → step-pair-lts.Need-finish-requires (
   step-node-below t,
   step-node.Post,
@@ -368,7 +342,6 @@ step-pair-finish-requires : (t : ℕ) → step-pair-lts.Need-finish-requires (
 ) (step-pair-at t) step-pair.Post
 step-pair-finish-requires t c κs = finish-ready _ _ _ _ _ _ _ _ (c .before .before .before .before .before .before .before .before .before .before .before .before .before .before .before .before .before .before .before .before .before .before .before .before .before .before .before .before .before .before .before .before .before .before .before .pre .1) _ _ _ (c .before .before .before .before .before .before .before .before .before .before .before .before .before .before .before .before .before .before .before .before .before .before .before .before .step-node .ensures) _ _ (c .before .before .before .before .before .before .before .before .before .before .before .before .step-node2 .ensures)
 
--- src/walk.rt:137:1
 step-pair-same-length : (t : ℕ) → step-pair-lts.Need-same-length (
   step-node-below t,
   step-node.Post,
@@ -379,7 +352,6 @@ step-pair-same-length : (t : ℕ) → step-pair-lts.Need-same-length (
 ) (step-pair-at t) step-pair.Post
 step-pair-same-length t c = c .before .before .before .before .before .before .before .finish .kept .0 ∙ c .before .before .before .before .before .before .before .before .before .before .before .before .before .before .before .before .before .before .before .before .step-node2 .kept .1 .1 .1 .1 .0 ∙ c .before .before .before .before .before .before .before .before .before .before .before .before .before .before .before .before .before .before .before .before .before .before .before .before .before .before .before .before .before .before .before .before .step-node .kept .1 .1 .1 .1 .0
 
--- src/walk.rt:137:1
 step-pair-same-length-2 : (t : ℕ) → step-pair-lts.Need-same-length-2 (
   step-node-below t,
   step-node.Post,
@@ -390,7 +362,6 @@ step-pair-same-length-2 : (t : ℕ) → step-pair-lts.Need-same-length-2 (
 ) (step-pair-at t) step-pair.Post
 step-pair-same-length-2 t c = c .before .before .before .before .before .before .before .finish .kept .1 .0 ∙ c .before .before .before .before .before .before .before .before .before .before .before .before .before .before .before .before .before .before .before .before .step-node2 .kept .1 .1 .1 .1 .1 .0 ∙ c .before .before .before .before .before .before .before .before .before .before .before .before .before .before .before .before .before .before .before .before .before .before .before .before .before .before .before .before .before .before .before .before .step-node .kept .1 .1 .1 .1 .1 .0
 
--- src/walk.rt:137:1
 step-pair-same-length-3 : (t : ℕ) → step-pair-lts.Need-same-length-3 (
   step-node-below t,
   step-node.Post,
@@ -401,7 +372,6 @@ step-pair-same-length-3 : (t : ℕ) → step-pair-lts.Need-same-length-3 (
 ) (step-pair-at t) step-pair.Post
 step-pair-same-length-3 t c = c .before .before .before .before .before .before .before .finish .kept .1 .1 .0 ∙ c .before .before .before .before .before .before .before .before .before .before .before .before .before .before .before .before .before .before .before .before .step-node2 .kept .1 .1 .1 .1 .1 .1 .0 ∙ c .before .before .before .before .before .before .before .before .before .before .before .before .before .before .before .before .before .before .before .before .before .before .before .before .before .before .before .before .before .before .before .before .step-node .kept .1 .1 .1 .1 .1 .1 .0
 
--- src/walk.rt:137:1
 step-pair-same-length-4 : (t : ℕ) → step-pair-lts.Need-same-length-4 (
   step-node-below t,
   step-node.Post,
@@ -412,7 +382,6 @@ step-pair-same-length-4 : (t : ℕ) → step-pair-lts.Need-same-length-4 (
 ) (step-pair-at t) step-pair.Post
 step-pair-same-length-4 t c = c .before .before .before .before .before .before .before .finish .kept .1 .1 .1 .0 ∙ c .before .before .before .before .before .before .before .before .before .before .before .before .before .before .before .before .before .before .before .before .step-node2 .kept .1 .1 .1 .1 .1 .1 .1 .0 ∙ c .before .before .before .before .before .before .before .before .before .before .before .before .before .before .before .before .before .before .before .before .before .before .before .before .before .before .before .before .before .before .before .before .step-node .kept .1 .1 .1 .1 .1 .1 .1 .0
 
--- src/walk.rt:137:1
 step-pair-returns : (t : ℕ) → step-pair-lts.Need-returns (
   step-node-below t,
   step-node.Post,

@@ -6,31 +6,24 @@ use Rattle.stepping.proofs.walk.step_leaf.Reads as reads
 use Rattle.stepping.proofs.walk.step_leaf.Lts as lts
 use Rattle.node_step.proofs.check.step_check.Reads as step-check-reads
 
--- src/walk.rt:85:9
 step-check-requires : tie.Need-step-check-requires
 step-check-requires c κs = search needs
 
--- src/walk.rt:86:26
 add-t22 : tie.Need-add-t22
 add-t22 c = search needs
 
--- src/walk.rt:68:1
 same-length : tie.Need-same-length
 same-length c = search needs
 
--- src/walk.rt:68:1
 same-length-2 : tie.Need-same-length-2
 same-length-2 c = search needs
 
--- src/walk.rt:68:1
 same-length-3 : tie.Need-same-length-3
 same-length-3 c = search needs
 
--- src/walk.rt:68:1
 same-length-4 : tie.Need-same-length-4
 same-length-4 c = search needs
 
--- src/walk.rt:68:1
 returns : tie.Need-returns
 returns c = search (needs, leaf-stepped)
 

@@ -5,23 +5,18 @@ use Rattle.text.proofs.write.put_byte.Tie as tie
 use Rattle.text.proofs.write.put_byte.Reads as reads
 use Rattle.text.proofs.write.put_byte.Lts as lts
 
--- src/write.rt:11:9
 slice-write-out : tie.Need-slice-write-out
 slice-write-out c = search needs
 
--- src/write.rt:12:16
 add-result : tie.Need-add-result
 add-result c = search needs
 
--- src/write.rt:12:9
 same-length : tie.Need-same-length
 same-length c = search needs
 
--- src/write.rt:12:9
 returns : tie.Need-returns
 returns c = search (needs, byte-in)
 
--- src/write.rt:7:1
 returns-2 : tie.Need-returns-2
 returns-2 c = search (needs, byte-out)
 

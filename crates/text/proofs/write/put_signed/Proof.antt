@@ -7,35 +7,27 @@ use Rattle.text.proofs.write.put_signed.Lts as lts
 use Rattle.text.proofs.write.put_bytes.Reads as put-bytes-reads
 use Rattle.text.proofs.write.put_decimal.Reads as put-decimal-reads
 
--- src/write.rt:47:35
 slice-aggregate-put-bytes : tie.Need-slice-aggregate-put-bytes
 slice-aggregate-put-bytes c = search needs
 
--- src/write.rt:47:9
 put-bytes-requires : tie.Need-put-bytes-requires
 put-bytes-requires c κs = search needs
 
--- src/write.rt:47:9
 same-length : tie.Need-same-length
 same-length c = search needs
 
--- src/write.rt:47:9
 returns : tie.Need-returns
 returns c = search (needs, signed-none)
 
--- src/write.rt:49:26
 cast-put-decimal : tie.Need-cast-put-decimal
 cast-put-decimal c = signed-cast _ (c .before .before .before .fits .z) (c .before .if1 .left)
 
--- src/write.rt:49:5
 put-decimal-requires : tie.Need-put-decimal-requires
 put-decimal-requires c κs = search needs
 
--- src/write.rt:42:1
 same-length-2 : tie.Need-same-length-2
 same-length-2 c = search needs
 
--- src/write.rt:42:1
 returns-2 : tie.Need-returns-2
 returns-2 c = search (needs, signed-step)
 

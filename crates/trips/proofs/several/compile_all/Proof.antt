@@ -16,31 +16,24 @@ abbrev μ-loop : tie.MeasureT-loop
 μ-loop ops nums firsts counts n nodes₀ nfirsts₀ ncounts₀ refusals₀ at₀ r₀ nodes nfirsts ncounts refusals at r =
     n - r
 
--- src/several.rt:69:5
 loop-holds : tie.Need-loop-holds Inv-loop μ-loop
 loop-holds c = search needs
 
--- src/several.rt:70:9
 compile-one-requires : tie.Need-compile-one-requires Inv-loop μ-loop
 compile-one-requires c κs = search needs
 
--- src/several.rt:73:9
 add-r : tie.Need-add-r Inv-loop μ-loop
 add-r c = search needs
 
--- src/several.rt:69:5
 loop-less : tie.Need-loop-less Inv-loop μ-loop
 loop-less c = search needs
 
--- src/several.rt:69:5
 loop-again : tie.Need-loop-again Inv-loop μ-loop
 loop-again c = search needs
 
--- src/several.rt:56:1
 same-length : tie.Need-same-length Inv-loop μ-loop
 same-length c = search needs
 
--- src/several.rt:56:1
 returns : tie.Need-returns Inv-loop μ-loop
 returns c = search needs
 

@@ -12,27 +12,21 @@ Inv-loop refusals starts bits n r₀ r = Unit {0}
 abbrev μ-loop : tie.MeasureT-loop
 μ-loop refusals starts bits n r₀ r = n - r
 
--- src/several.rt:93:5
 loop-holds : tie.Need-loop-holds Inv-loop μ-loop
 loop-holds c = search needs
 
--- src/several.rt:94:9
 show-rule-requires : tie.Need-show-rule-requires Inv-loop μ-loop
 show-rule-requires c κs = search needs
 
--- src/several.rt:95:9
 add-r : tie.Need-add-r Inv-loop μ-loop
 add-r c = search needs
 
--- src/several.rt:93:5
 loop-less : tie.Need-loop-less Inv-loop μ-loop
 loop-less c = search needs
 
--- src/several.rt:93:5
 loop-again : tie.Need-loop-again Inv-loop μ-loop
 loop-again c = search needs
 
--- src/several.rt:91:1
 returns : tie.Need-returns Inv-loop μ-loop
 returns c = search needs
 

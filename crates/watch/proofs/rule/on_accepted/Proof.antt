@@ -5,11 +5,9 @@ use Rattle.watch.proofs.rule.on_accepted.Tie as tie
 use Rattle.watch.proofs.rule.on_accepted.Reads as reads
 use Rattle.watch.proofs.rule.on_accepted.Lts as lts
 
--- src/rule.rt:36:9
 returns : tie.Need-returns
 returns c = search (needs, accepted-report)
 
--- src/rule.rt:32:1
 returns-2 : tie.Need-returns-2
 returns-2 c = search needs
 

@@ -7,15 +7,12 @@ use Rattle.watch.proofs.rule.on_step.Lts as lts
 use Rattle.watch.proofs.rule.on_verdict.Reads as on-verdict-reads
 use Rattle.watch.proofs.rule.root_culprit.Reads as root-culprit-reads
 
--- src/rule.rt:56:9
 root-culprit-requires : tie.Need-root-culprit-requires
 root-culprit-requires c κs = search needs
 
--- src/rule.rt:57:5
 on-verdict-requires : tie.Need-on-verdict-requires
 on-verdict-requires c κs = search needs
 
--- src/rule.rt:52:1
 returns : tie.Need-returns
 returns c = search (needs, on-culprit)
 

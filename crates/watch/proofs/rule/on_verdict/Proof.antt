@@ -6,23 +6,18 @@ use Rattle.watch.proofs.rule.on_verdict.Reads as reads
 use Rattle.watch.proofs.rule.on_verdict.Lts as lts
 use Rattle.watch.proofs.rule.on_accepted.Reads as on-accepted-reads
 
--- src/rule.rt:46:27
 enum-known-verdict : tie.Need-enum-known-verdict
 enum-known-verdict c = search needs
 
--- src/rule.rt:46:37
 on-accepted-requires : tie.Need-on-accepted-requires
 on-accepted-requires c κs = search needs
 
--- src/rule.rt:47:26
 enum-known-verdict-2 : tie.Need-enum-known-verdict-2
 enum-known-verdict-2 c = search needs
 
--- src/rule.rt:42:1
 returns : tie.Need-returns
 returns c = search (needs, on-accepted)
 
--- src/rule.rt:42:1
 returns-2 : tie.Need-returns-2
 returns-2 c = search (needs, on-refused)
 

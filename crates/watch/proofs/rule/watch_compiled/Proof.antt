@@ -8,31 +8,24 @@ use Rattle.lending.proofs.fresh_over.Reads as fresh-over-reads
 use Rattle.watch.proofs.rule.blank_monitor.Reads as blank-monitor-reads
 use Rattle.watch.proofs.rule.watch_steps.Reads as watch-steps-reads
 
--- src/rule.rt:136:30
 blank-monitor-requires : tie.Need-blank-monitor-requires
 blank-monitor-requires c κs = search needs
 
--- src/rule.rt:136:9
 fresh-over-requires : tie.Need-fresh-over-requires
 fresh-over-requires c κs = search needs
 
--- src/rule.rt:141:13
 enum-told : tie.Need-enum-told
 enum-told c = search needs
 
--- src/rule.rt:141:13
 watch-steps-requires : tie.Need-watch-steps-requires
 watch-steps-requires c κs = search needs
 
--- src/rule.rt:141:13
 returns : tie.Need-returns
 returns c = search (needs, made-watched)
 
--- src/rule.rt:143:26
 enum-known-outcome : tie.Need-enum-known-outcome
 enum-known-outcome c = search needs
 
--- src/rule.rt:144:13
 returns-2 : tie.Need-returns-2
 returns-2 c = search (needs, made-refused)
 

@@ -7,35 +7,27 @@ use Rattle.watch.proofs.rule.watch_rule.Lts as lts
 use Rattle.lending.proofs.compile_over.Reads as compile-over-reads
 use Rattle.watch.proofs.rule.watch_compiled.Reads as watch-compiled-reads
 
--- src/rule.rt:160:52
 slice-aggregate-compile-over : tie.Need-slice-aggregate-compile-over
 slice-aggregate-compile-over c = search needs
 
--- src/rule.rt:160:9
 compile-over-requires : tie.Need-compile-over-requires
 compile-over-requires c κs = search needs
 
--- src/rule.rt:162:25
 enum-known-answer : tie.Need-enum-known-answer
 enum-known-answer c = search needs
 
--- src/rule.rt:163:68
 slice-aggregate-watch-compiled : tie.Need-slice-aggregate-watch-compiled
 slice-aggregate-watch-compiled c = search needs
 
--- src/rule.rt:163:13
 watch-compiled-requires : tie.Need-watch-compiled-requires
 watch-compiled-requires c κs = search needs
 
--- src/rule.rt:163:13
 returns : tie.Need-returns
 returns c = search (needs, rule-watched)
 
--- src/rule.rt:165:27
 enum-known-answer-2 : tie.Need-enum-known-answer-2
 enum-known-answer-2 c = search needs
 
--- src/rule.rt:166:13
 returns-2 : tie.Need-returns-2
 returns-2 c = search (needs, rule-refused)
 

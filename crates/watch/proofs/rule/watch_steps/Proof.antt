@@ -19,47 +19,36 @@ Inv-loop text from table first count nodes ncount k₀ at₀ k at =
 abbrev μ-loop : tie.MeasureT-loop
 μ-loop text from table first count nodes ncount k₀ at₀ k at = length (stepsFrom text at)
 
--- src/rule.rt:88:5
 loop-holds : tie.Need-loop-holds Inv-loop μ-loop
 loop-holds c = search (needs, left-first)
 
--- src/rule.rt:89:13
 next-step-requires : tie.Need-next-step-requires Inv-loop μ-loop
 next-step-requires c κs = search needs
 
--- src/rule.rt:90:30
 enum-known-read : tie.Need-enum-known-read Inv-loop μ-loop
 enum-known-read c = search needs
 
--- src/rule.rt:91:13
 enum-told : tie.Need-enum-told Inv-loop μ-loop
 enum-told c = search needs
 
--- src/rule.rt:91:13
 returns : tie.Need-returns Inv-loop μ-loop
 returns c = search (needs, left-end)
 
--- src/rule.rt:93:13
 step-over-requires : tie.Need-step-over-requires Inv-loop μ-loop
 step-over-requires c κs = search needs
 
--- src/rule.rt:94:13
 on-step-requires : tie.Need-on-step-requires Inv-loop μ-loop
 on-step-requires c κs = search needs
 
--- src/rule.rt:95:12
 is-end-requires : tie.Need-is-end-requires Inv-loop μ-loop
 is-end-requires c κs = search needs
 
--- src/rule.rt:96:13
 returns-2 : tie.Need-returns-2 Inv-loop μ-loop
 returns-2 c = search (needs, left-stops)
 
--- src/rule.rt:88:5
 loop-less : tie.Need-loop-less Inv-loop μ-loop
 loop-less c = search (needs, fewer)
 
--- src/rule.rt:88:5
 loop-again : tie.Need-loop-again Inv-loop μ-loop
 loop-again c = search (needs, left-next)
 
