@@ -26,7 +26,7 @@ use Rattle.monitor.specs.declared.node.Row.the-variants.{Node, Unknown}
 use Rattle.monitor.specs.declared.range.AnchorRange.{AnchorRange}
 use Rattle.monitor.specs.Mon.{Signal, always-true, at, Check, range-check, delayed-check, obligation, Mon, exprOf}
 use Rattle.monitor.specs.Table.{Never, Join, join-and, join-or, Cell, subAt, keepPure, keepSignal, signalOf, checked, cellOf, fromTree}
-use Rattle.monitor.proofs.Parts.{Part, part-at, no-part}
+use Rattle.monitor.proofs.Parts.{FormulaPart, part-at, no-part}
 use Rattle.alike.specs.Alike.{alikeMon}
 use Rattle.alike.specs.Signs.{Sound, Spelt, Means}
 use Rattle.alike.specs.Rows.{alikeJoin, alikeCell, alikeCells, rowFor, SoundCell, Shows}

@@ -14,7 +14,7 @@ use Rattle.alike.specs.declared.text.Sign.the-variants.{Atom, Word}
 use Rattle.alike.specs.declared.text.Cursor.{Cursor}
 use Rattle.alike.specs.declared.text.Next.{Next}
 use Rattle.alike.specs.declared.text.Next.the-variants.{Here, End}
-use Rattle.alike.specs.Signs.{signOf, pickSigns, signsAt, signsFrom, owed, rest, taken}
+use Rattle.alike.specs.Signs.{signOf, signsAt, signsFrom, owed, rest, taken}
 
 -- ---- the sign at a cursor
 module _ (ops nums : List ℕ) (c : Cursor) (end : ℕ) where

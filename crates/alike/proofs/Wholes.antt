@@ -19,7 +19,7 @@ use Rattle.formula.proofs.Rules.{rule-inv}
 use Rattle.monitor.specs.declared.node.Row.{Row}
 use Rattle.monitor.specs.Mon.{Check, Mon}
 use Rattle.monitor.specs.Table.{Never, Join, Cell, cellOf, cellBy, cells, rowOf, fromTree}
-use Rattle.monitor.proofs.Holds.{Holds, held-inv}
+use Rattle.monitor.proofs.Holds.{HoldsTree, held-inv}
 use Rattle.alike.specs.declared.Part.{Part}
 use Rattle.alike.specs.Alike.{alikeMon, partOf, likened, likenessCall, alikeSome}
 use Rattle.alike.specs.Rows.{alikeCell, alikeCells, Shows, IsShown, SameRow, IsCompiled}
@@ -34,7 +34,7 @@ module _ (ops nums nodes : List ℕ) where
   record Held (a : Part) : Type 0 where
     pub formula : Formula
     pub tree : Tree Check Never Join
-    pub holds : Holds ops nums (a .first) (a .count) nodes (a .nfirst) (a .ncount) formula tree
+    pub holds : HoldsTree ops nums (a .first) (a .count) nodes (a .nfirst) (a .ncount) formula tree
     pub is : partOf ops nums nodes a ≡ some (fromTree tree)
 
   held : (a : Part) → IsCompiled ops nums nodes a → Held a

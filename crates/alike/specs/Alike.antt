@@ -8,6 +8,7 @@ use mathlib.Core.Option.{Option, none, some}
 use Prim.Native.Nat.{ℕ}
 use lib.Dec.{eqb, leb}
 use lib.ListN.{length}
+use Rattle.terms.specs.Limits.{nodeCells}
 use Rattle.result.specs.Result.{Result, given, refused, orElse}
 use Rattle.formula.specs.Table.{roomy}
 use Rattle.formula.specs.Text.{alikeText}
@@ -84,7 +85,7 @@ likened (some m) (some n) = given (alikeMon m n)
 -- refusal 1: a table is shorter than 1,024 formula nodes or 256 monitor nodes, of seven numbers each
 unfoldable pub likenessCall : List ℕ → List ℕ → List ℕ → Part → Part → Result Bool
 likenessCall ops nums nodes a b =
-    orElse (roomy ops nums && leb 1792 (length nodes)) 1
+    orElse (roomy ops nums && leb nodeCells (length nodes)) 1
     (likened (partOf ops nums nodes a) (partOf ops nums nodes b))
 
 -- the likeness of two parts that hold compiled rules

@@ -8,6 +8,7 @@ use mathlib.Core.Path.{_≡_}
 use Prim.Native.Nat.{ℕ, zero, suc, _+_, _-_, _≤_}
 use lib.Dec.{ltb}
 use lib.ListN.{length, getD}
+use Rattle.terms.specs.Choice.{pick}
 use Rattle.formula.specs.Tree.{size}
 use Rattle.formula.specs.Spells.{Spells}
 use Rattle.formula.specs.Formula.{Formula, var}
@@ -28,17 +29,13 @@ abbrev pub signOf : Read → Sign
 signOf (Atom n) = atom (var n)
 signOf (Word b) = sign b
 
-abbrev pub pickSigns : Bool → List Sign → List Sign → List Sign
-pickSigns true a b = a
-pickSigns false a b = b
-
 -- the signs of one place of a pure formula, by its operation and number
 abbrev pub signsAt : ℕ → ℕ → List Sign
 signsAt op n =
-    pickSigns (ltb op 3) (atom (var n) ∷ [])
-    (pickSigns (ltb op 4) (sign 33 ∷ [])
-    (pickSigns (ltb op 10) (sign 38 ∷ [])
-    (pickSigns (ltb op 11) (sign 124 ∷ []) (sign 124 ∷ sign 33 ∷ []))))
+    pick (ltb op 3) (atom (var n) ∷ [])
+    (pick (ltb op 4) (sign 33 ∷ [])
+    (pick (ltb op 10) (sign 38 ∷ [])
+    (pick (ltb op 11) (sign 124 ∷ []) (sign 124 ∷ sign 33 ∷ []))))
 
 -- the signs of n places from i on
 unfoldable pub signsFrom : List ℕ → List ℕ → ℕ → ℕ → List Sign

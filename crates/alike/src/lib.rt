@@ -2,12 +2,12 @@
 use crate::node::same_nodes;
 use formula::table::is_roomy;
 use monitor::table::is_compiled;
+use terms::limit::NODE_CELLS;
 
 pub mod node;
 pub mod text;
 
 ghost use mathlib.Core.Path.{_≡_};
-ghost use mathlib.Core.Option.{Option};
 ghost use Rattle.formula.specs.Table.{isSome};
 ghost use Rattle.alike.specs.Alike.{partOf, resultOf, likenessCall};
 
@@ -37,7 +37,7 @@ fn holds(ops: &[u8], nums: &[u64], nodes: &[u64], a: Part) -> bool
 pub fn alike(ops: &[u8], nums: &[u64], nodes: &[u64], a: Part, b: Part) -> Likeness
     ensures { λ r. ⌜ resultOf r ≡ likenessCall (now (ops .entry)) (now (nums .entry)) (now (nodes .entry)) a b ⌝ }
 {
-    if nodes.len() < 1792 {
+    if nodes.len() < NODE_CELLS {
         return Likeness::Refused(1);
     }
     if is_roomy(ops, nums) {

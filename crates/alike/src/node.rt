@@ -7,9 +7,7 @@ use monitor::node::row_at;
 use monitor::range::AnchorRange;
 use monitor::range::End;
 ghost use mathlib.Core.Path.{_≡_};
-ghost use mathlib.Core.Bool.{Bool};
-ghost use mathlib.Core.Option.{Option};
-ghost use Prim.Native.Nat.{ℕ, _+_, _*_, _≤_};
+ghost use Prim.Native.Nat.{_+_, _*_, _≤_};
 ghost use lib.ListN.{length};
 ghost use Rattle.monitor.specs.Table.{rowOf};
 ghost use Rattle.alike.specs.Alike.{alikeRange, alikeSome, partOf};
@@ -119,7 +117,8 @@ fn same_node(ops: &[u8], nums: &[u64], m: MonNode, n: MonNode) -> bool
 
 // Whether the nodes in rows i and j agree.
 fn same_row(ops: &[u8], nums: &[u64], nodes: &[u64], i: usize, j: usize) -> bool
-    requires { ⌜ (7 * (i + 1) ≤ length (now nodes)) × (7 * (j + 1) ≤ length (now nodes)) × IsShown (now ops) (now nums) (rowOf (now nodes) i) × IsShown (now ops) (now nums) (rowOf (now nodes) j) ⌝ }
+    requires { ⌜ (7 * (i + 1) ≤ length (now nodes)) × (7 * (j + 1) ≤ length (now nodes)) × IsShown (now ops) (now nums) (rowOf (now nodes) i)
+        × IsShown (now ops) (now nums) (rowOf (now nodes) j) ⌝ }
     ensures { λ r. ⌜ SameRow (now (ops .entry)) (now (nums .entry)) (rowOf (now (nodes .entry)) i) (rowOf (now (nodes .entry)) j) r ⌝ }
 {
     let Row::Node(m) = row_at(nodes, i) else {

@@ -2,9 +2,12 @@
 use formula::signal::pure_at;
 use formula::table::Walk;
 use monitor::node::SignalExpr;
+use terms::op::IMPLIES;
+use terms::op::NEXT;
+use terms::op::NOT;
+use terms::op::OR;
 ghost use mathlib.Core.Path.{_≡_};
-ghost use mathlib.Core.Bool.{Bool};
-ghost use Prim.Native.Nat.{ℕ, _+_, _≤_};
+ghost use Prim.Native.Nat.{_+_, _≤_};
 ghost use lib.ListN.{length};
 ghost use Rattle.formula.specs.Text.{alikeSigns, agree};
 ghost use Rattle.alike.specs.Signs.{signOf, rest, taken, IsSpelt, LikenedAt, IsMeant, Likened};
@@ -45,16 +48,16 @@ fn sign_at(ops: &[u8], nums: &[u64], c: Cursor, end: usize) -> Next
         at: at + 1,
         owes: false,
     };
-    if op < 3 {
+    if op < NOT {
         return Next::Here(Sign::Atom(nums[at]), behind);
     }
-    if op < 4 {
+    if op < NEXT {
         return Next::Here(Sign::Word(b'!'), behind);
     }
-    if op < 10 {
+    if op < OR {
         return Next::Here(Sign::Word(b'&'), behind);
     }
-    if op < 11 {
+    if op < IMPLIES {
         return Next::Here(Sign::Word(b'|'), behind);
     }
     Next::Here(
@@ -131,7 +134,7 @@ fn same_at(ops: &[u8], nums: &[u64], p: usize, q: usize) -> bool
 }
 
 // Whether two signals are alike.
-pub fn same_signal(ops: &[u8], nums: &[u64], d: SignalExpr, e: SignalExpr) -> bool
+pub(crate) fn same_signal(ops: &[u8], nums: &[u64], d: SignalExpr, e: SignalExpr) -> bool
     requires { ⌜ IsMeant (now ops) (now nums) d × IsMeant (now ops) (now nums) e ⌝ }
     ensures { λ r. ⌜ Likened (now (ops .entry)) (now (nums .entry)) d e r ⌝ }
 {

@@ -12,14 +12,14 @@ use mir.Val.{Fits}
 use lib.Dec.{eqb, leb}
 use lib.ListN.{length, getD, take, drop, length-drop, drop-of-length-le}
 use lib.Seq.{drop-drop, length-take-le}
-use Rattle.number.specs.Number.{pick}
+use Rattle.terms.specs.Choice.{pick}
 use Rattle.line.specs.Text.{lines, parts, firstAt, Found}
 use Rattle.line.specs.Line.{Line, bad, rule, wrong-rule, node, wrong-node, step, wrong-step, parse}
 use Rattle.line.specs.Means.{means}
 use Rattle.line.specs.declared.line.Line as code
 use Rattle.line.proofs.Parts.{lines-next}
 use Rattle.book.specs.Book.{Book, empty, isNil, whole, Fault, numberOf, fault, add, Outcome, accepted, refused, BookResult, contents, refusal, bookResult, unless, readOn, ended, read}
-use Rattle.book.specs.Checked.{resultOf, Lined, Small, Holds, Agrees, TakesLine}
+use Rattle.book.specs.Checked.{resultOf, Lined, Small, HoldsBook, Agrees, TakesLine}
 use Rattle.book.specs.declared.state.State.{State}
 use Rattle.book.specs.declared.state.Taken.{Taken}
 use Rattle.book.specs.declared.state.Taken.the-variants.{Next, Faulty}
@@ -55,14 +55,14 @@ ended-found (c ∷ d ∷ r) e h = go (eqb c 10) (ended-found (d ∷ r) e (omega 
 -- ---- the lines before `at` are read: `line` of them, into a book that the state stands for
 pub record Run (text : List ℕ) (s : State) (at line : ℕ) : Type 0 where
   pub book : Book
-  pub holds : Holds book s
+  pub holds : HoldsBook book s
   pub same : readOn empty 0 (lines text) ≡ readOn book line (lines (drop at text))
   pub lined : Lined text
   pub near : at ≤ length text + 1
   pub counted : line ≤ at
   pub head : s .head ≤ at
 
-pub run-first : (text : List ℕ) (s : State) → Lined text → Holds empty s → Run text s 0 0
+pub run-first : (text : List ℕ) (s : State) → Lined text → HoldsBook empty s → Run text s 0 0
 run-first text s t h = record { book = empty; holds = h; same = refl; lined = t; near = omega arith; counted = omega arith; head = omega (arith, h .head) }
 
 -- one line more of a text
@@ -122,7 +122,7 @@ module _ (text : List ℕ) (s : State) (at line n : ℕ) (rest first : List ℕ)
           let hd : s′ .head ≡ add (n + 1) (v .book) (parse first) .head = subst (λ (x : State). x .head ≡ add (n + 1) (v .book) (parse first) .head) u (a .2 .head) in
           record {
             book = add (n + 1) (v .book) (parse first);
-            holds = subst (Holds (add (n + 1) (v .book) (parse first))) u (a .2);
+            holds = subst (HoldsBook (add (n + 1) (v .book) (parse first))) u (a .2);
             same = on ∙ ap (λ (x : Option Fault). unless x line (readOn (add (n + 1) (v .book) (parse first)) (line + 1) (lines (drop (at + (n + 1)) text)))) p;
             lined = v .lined;
             near = omega (arith, rest-short);

@@ -10,7 +10,6 @@ use borrow.Author.Tests.{eq-eqb, ne-eqb, lt-ltb, le-ltb}
 use mir.Syntax.{w64}
 use mir.Val.{Fits}
 use lib.Dec.{eqb, ltb}
-use Rattle.number.specs.Number.{pick}
 use Rattle.book.specs.Book.{spend}
 use Rattle.book.specs.Checked.{depths, dueOf, Small, DueIs}
 use Rattle.book.specs.declared.due.Due.{Due}

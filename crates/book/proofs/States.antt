@@ -9,13 +9,13 @@ use native.Mathlib.Numerals.{add-one}
 use borrow.Author.Tests.{lt-ltb, le-ltb, le-leb, lt-leb}
 use lib.Dec.{ltb, leb}
 use lib.ListN.{length, length-append}
-use Rattle.number.specs.Number.{pick}
+use Rattle.terms.specs.Choice.{pick}
 use Rattle.line.specs.Line.{Line, bad, rule, wrong-rule, node, wrong-node, step, wrong-step}
 use Rattle.line.specs.Means.{means}
 use Rattle.line.specs.declared.line.Line as code
 use Rattle.line.specs.declared.line.Line.the-variants as lines
 use Rattle.book.specs.Book.{Book, empty, isNil, whole, headOf, lastOf, bump, spend, Fault, numberOf, word, place, label, number, limit, passes, stands, within, labelled, numbered, firstFault, fault, add}
-use Rattle.book.specs.Checked.{dueOf, depths, Small, DueIs, Holds, Agrees, Takes, TakesRule, TakesNode, TakesStep, TakesLine}
+use Rattle.book.specs.Checked.{dueOf, depths, Small, DueIs, HoldsBook, Agrees, Takes, TakesRule, TakesNode, TakesStep, TakesLine}
 use Rattle.book.specs.declared.due.Due.{Due}
 use Rattle.book.specs.declared.state.State.{State}
 use Rattle.book.specs.declared.state.Taken.{Taken}
@@ -24,7 +24,7 @@ use Rattle.book.specs.declared.state.Taken.the-variants.{Next, Faulty}
 false-true : {B : Type 0} → true ≡ false → B
 false-true e = let z : _≡_ {A = ℕ} 0 1 = cc in absurd (omega arith)
 
-pub starts : Holds empty (record { rules = 0; nodes = 0; own = 0; depth = 0; bits = 0; stepping = false; head = 0 })
+pub starts : HoldsBook empty (record { rules = 0; nodes = 0; own = 0; depth = 0; bits = 0; stepping = false; head = 0 })
 unfolding lastOf dueOf
 starts = record { rules = refl; nodes = refl; own = refl; due = refl; small = record { low = omega arith; fits = omega arith }; begun = λ e. false-true e; stepping = refl; head = refl }
 
@@ -58,7 +58,7 @@ pick-same : (t : Bool) (f : Fault) → pick t (some f) (some f) ≡ some f
 pick-same true f = refl
 pick-same false f = refl
 
-module _ (b : Book) (s : State) (h : Holds b s) where
+module _ (b : Book) (s : State) (h : HoldsBook b s) where
   pub inside : 0 < s .depth → whole b ≡ false
   unfolding dueOf
   inside k = ap isNil (h .due) ∙ go (s .depth) k
@@ -173,7 +173,7 @@ module _ (b : Book) (s : State) (h : Holds b s) where
 faulty : (n : ℕ) (b : Book) (l : Line) (f : Fault) → fault b l ≡ some f → Agrees n b l (fault b l) (Faulty (numberOf f))
 faulty n b l f e = subst (λ (o : Option Fault). Agrees n b l o (Faulty (numberOf f))) (sym e) refl
 
-right : (n : ℕ) (b : Book) (l : Line) (s : State) → fault b l ≡ none → Holds (add n b l) s → Agrees n b l (fault b l) (Next s)
+right : (n : ℕ) (b : Book) (l : Line) (s : State) → fault b l ≡ none → HoldsBook (add n b l) s → Agrees n b l (fault b l) (Next s)
 right n b l s e h = subst (λ (o : Option Fault). Agrees n b l o (Next s)) (sym e) (s, refl, h)
 
 -- ---- one law for each return

@@ -12,7 +12,8 @@ use mathlib.Core.Option.{Option, none, some}
 use Prim.Native.Nat.{ℕ, zero, suc, _+_}
 use lib.Dec.{leb, ltb, eqb}
 use lib.ListN.{length}
-use Rattle.number.specs.Number.{pick}
+use Rattle.terms.specs.Limits.{bookBytes, bookNodes, bookRules, deepest, ruleNodes}
+use Rattle.terms.specs.Choice.{pick}
 use Rattle.line.specs.Text.{lines}
 use Rattle.line.specs.Line.{Line, bad, rule, wrong-rule, node, wrong-node, step, wrong-step, parse}
 
@@ -101,8 +102,8 @@ headOf (d ∷ r) = d
 -- the limits: 64 rules, 256 nodes a rule, 1,024 nodes a book, depth 64
 unfoldable pub within : Book → Sort → Bool
 within b no-line = true
-within b rule-line = ltb (length (b .labels)) 64
-within b node-line = ltb (lastOf (b .counts)) 256 && (ltb (length (b .ops)) 1024 && leb (headOf (b .due)) 64)
+within b rule-line = ltb (length (b .labels)) bookRules
+within b node-line = ltb (lastOf (b .counts)) ruleNodes && (ltb (length (b .ops)) bookNodes && leb (headOf (b .due)) deepest)
 within b step-line = true
 
 pub data Fault : Type 0 where
@@ -228,4 +229,4 @@ ended (c ∷ []) = eqb c 10
 ended (c ∷ d ∷ r) = ended (d ∷ r)
 
 unfoldable pub read : List ℕ → Outcome
-read t = pick (leb (length t) 65535) (pick (ended t) (readOn empty 0 (lines t)) (refused 4 0)) (refused 3 0)
+read t = pick (leb (length t) bookBytes) (pick (ended t) (readOn empty 0 (lines t)) (refused 4 0)) (refused 3 0)

@@ -6,7 +6,8 @@ use mathlib.Core.Option.{Option, none, some}
 use Prim.Native.Nat.{ℕ, zero, suc, _+_, _*_, _/_, _%_, _^_, _≤_, _<_}
 use lib.Dec.{eqb}
 use lib.ListN.{length}
-use Rattle.number.specs.Number.{pick}
+use Rattle.terms.specs.Limits.{bookBytes}
+use Rattle.terms.specs.Choice.{pick}
 use Rattle.line.specs.Line.{Line, rule, node, step}
 use Rattle.line.specs.Means.{means}
 use Rattle.line.specs.declared.line.Line as code
@@ -25,7 +26,7 @@ resultOf (Refused n k) = refusal n k
 
 -- a text that is no longer than a book and ends where a line ends
 pub record Lined (text : List ℕ) : Type 0 where
-  pub short : length text ≤ 65535
+  pub short : length text ≤ bookBytes
   pub ends : ended text ≡ true
 
 -- ---- the depths at which operands are due, as a depth and bits
@@ -49,7 +50,7 @@ pub record DueIs (l : List ℕ) (r : Due) : Type 0 where
   pub small : Small (r .depth) (r .bits)
 
 -- ---- the state
-pub record Holds (b : Book) (s : State) : Type 0 where
+pub record HoldsBook (b : Book) (s : State) : Type 0 where
   pub rules : s .rules ≡ length (b .labels)
   pub nodes : s .nodes ≡ length (b .ops)
   pub own : s .own ≡ lastOf (b .counts)
@@ -61,11 +62,11 @@ pub record Holds (b : Book) (s : State) : Type 0 where
 
 -- what taking a line of n bytes answers: the fault's number, or the state with the line added
 abbrev pub Agrees : ℕ → Book → Line → Option Fault → Taken → Type 0
-Agrees n b l none r = (s : State) × (r ≡ Next s) × Holds (add n b l) s
+Agrees n b l none r = (s : State) × (r ≡ Next s) × HoldsBook (add n b l) s
 Agrees n b l (some f) r = r ≡ Faulty (numberOf f)
 
 pub record Takes (s : State) (l : Line) (n : ℕ) (r : Taken) : Type 0 where
-  pub is : (b : Book) → Holds b s → Agrees n b l (fault b l) r
+  pub is : (b : Book) → HoldsBook b s → Agrees n b l (fault b l) r
 
 -- the same for a rule's line whatever its label and kind, a node's whatever its number, a step's, and the code's line
 pub record TakesRule (s : State) (n : ℕ) (r : Taken) : Type 0 where

@@ -6,6 +6,7 @@ use line::line::read_line;
 use line::text::find;
 use line::text::past;
 use line::text::upto;
+use terms::limit::BOOK_BYTES;
 ghost use mathlib.Core.Path.{_≡_};
 ghost use Rattle.line.specs.Text.{lines};
 ghost use Rattle.book.specs.Book.{empty, readOn, read, bookResult, ended};
@@ -73,7 +74,7 @@ fn is_ended(text: &[u8]) -> bool
 pub fn check(text: &[u8]) -> Checked
     ensures { λ r. ⌜ resultOf r ≡ bookResult (read (now (text .entry))) ⌝ }
 {
-    if 65535 < text.len() {
+    if BOOK_BYTES < text.len() {
         return Checked::Refused { number: 3, line: 0 };
     }
     if is_ended(text) {

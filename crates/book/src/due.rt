@@ -1,4 +1,6 @@
 // The depths at which operands are still due: the next one's depth, and a bit for each depth up to it at which another is due.
+use terms::op::AND;
+use terms::op::NOT;
 ghost use mathlib.Core.Path.{_≡_};
 ghost use Prim.Native.Nat.{_≤_};
 ghost use Rattle.book.specs.Book.{spend};
@@ -30,14 +32,14 @@ fn climb(depth: usize, bits: u64) -> Due
 }
 
 // A node at `depth` has been read.
-pub fn operands(op: u8, depth: usize, bits: u64) -> Due
+pub(crate) fn operands(op: u8, depth: usize, bits: u64) -> Due
     requires { ⌜ (1 ≤ depth) × (depth ≤ 64) × Small depth bits ⌝ }
     ensures { λ r. ⌜ DueIs (spend op (dueOf depth bits)) r ⌝ }
 {
-    if op < 3 {
+    if op < NOT {
         return climb(depth, bits);
     }
-    if op < 9 {
+    if op < AND {
         return Due {
             depth: depth + 1,
             bits: bits * 2,

@@ -1,10 +1,14 @@
 // What the check knows of the lines read so far, and a line taken into it.
 use crate::due::operands;
 use line::line::Line;
+use terms::limit::BOOK_NODES;
+use terms::limit::BOOK_RULES;
+use terms::limit::DEEPEST;
+use terms::limit::RULE_NODES;
 ghost use Prim.Native.Nat.{_+_, _<_, _^_};
 ghost use Rattle.line.specs.Line.{wrong-rule, wrong-node, wrong-step};
 ghost use Rattle.book.specs.Book.{empty};
-ghost use Rattle.book.specs.Checked.{Small, Holds, Takes, TakesRule, TakesNode, TakesStep, TakesLine};
+ghost use Rattle.book.specs.Checked.{Small, HoldsBook, Takes, TakesRule, TakesNode, TakesStep, TakesLine};
 
 pub struct State {
     pub rules: usize,
@@ -23,7 +27,7 @@ pub enum Taken {
 }
 
 pub fn start() -> State
-    ensures { λ r. ⌜ Holds empty r ⌝ }
+    ensures { λ r. ⌜ HoldsBook empty r ⌝ }
 {
     State {
         rules: 0,
@@ -47,7 +51,7 @@ fn take_rule(s: State, n: usize) -> Taken
     if s.stepping {
         return Taken::Faulty(6);
     }
-    if 64 <= s.rules {
+    if BOOK_RULES <= s.rules {
         return Taken::Faulty(9);
     }
     Taken::Next(State {
@@ -81,13 +85,13 @@ fn take_node(s: State, op: u8, n: usize) -> Taken
     if s.depth == 0 {
         return Taken::Faulty(6);
     }
-    if 256 <= s.own {
+    if RULE_NODES <= s.own {
         return Taken::Faulty(9);
     }
-    if 1024 <= s.nodes {
+    if BOOK_NODES <= s.nodes {
         return Taken::Faulty(9);
     }
-    if 64 < s.depth {
+    if DEEPEST < s.depth {
         return Taken::Faulty(9);
     }
     let due = operands(op, s.depth, s.bits);
@@ -139,7 +143,7 @@ fn take_wrong_step(s: State, n: usize) -> Taken
 }
 
 // A line of n bytes, its LF counted.
-pub fn take(s: State, l: Line, n: usize) -> Taken
+pub(crate) fn take(s: State, l: Line, n: usize) -> Taken
     requires { ⌜ (s .head + n < 2 ^ 63) × Small (s .depth) (s .bits) ⌝ }
     ensures { λ r. ⌜ TakesLine s l n r ⌝ }
 {

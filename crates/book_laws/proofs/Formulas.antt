@@ -7,7 +7,6 @@ use Prim.Native.Nat.{ℕ, zero, suc, _+_, _≤_, _<_, max}
 use native.Mathlib.Omega.{arith}
 use borrow.Author.Tests.{lt-ltb, le-ltb, le-leb}
 use lib.Dec.{ltb, leb}
-use Rattle.number.specs.Number.{pick}
 use Rattle.number.proofs.Numbers.{below-or}
 use Rattle.formula.specs.Tree.{Tree, leaf, one, two, Token, leaf-of, one-of, two-of, unknown, size, depth, prefix, all}
 use Rattle.formula.specs.Formula.{Atom, Unary, Binary, Formula, Node, node, signal}

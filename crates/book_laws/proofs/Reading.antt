@@ -7,7 +7,8 @@ use native.Mathlib.Omega.{arith}
 use borrow.Author.Tests.{lt-ltb, leb-true}
 use lib.Dec.{eqb, leb, ltb}
 use lib.ListN.{length, getD}
-use Rattle.number.specs.Number.{pick, decimalOf, hexOf}
+use Rattle.terms.specs.Choice.{pick}
+use Rattle.number.specs.Number.{decimalOf, hexOf}
 use Rattle.number.specs.declared.Number.{Number}
 use Rattle.number.specs.declared.Number.the-variants.{Value, Wrong}
 use Rattle.formula.specs.Tree.{leaf-of, one-of, two-of, unknown}
@@ -17,7 +18,9 @@ use Rattle.line.specs.Text.{parts, onto, lines, fields, eqbs}
 use Rattle.line.specs.Word.{wordOf, lookup, fieldCount}
 use Rattle.line.specs.Line.{Line, rule, node, step, isLabel, kindOf, ruleKind, ruleLine, atomLine, boundLine, stepLine, content, ofFields, parse}
 use Rattle.book.specs.Book.{StepLine}
-use Rattle.book_laws.specs.Write.{RuleText, decimal, hexDigits, opOf, numOf, nodeText, kindByte, headText, stepText}
+use Rattle.number.specs.Digits.{decimal, hexDigits}
+use Rattle.line.specs.Line.{kindByte}
+use Rattle.book_laws.specs.Write.{RuleText, opOf, numOf, nodeText, headText, stepText}
 use Rattle.book_laws.proofs.Texts.{free, free-append, fields-free, parts-free, decimal-back, decimal-free, hex-back, hex-free, label-free, label-printable}
 
 -- a token of a formula within the limits

@@ -10,7 +10,8 @@ use borrow.Author.Tests.{ltb-true}
 use lib.Dec.{eqb, leb, ltb}
 use lib.ListN.{length, getD, take, drop, length-append, length-drop, List·getD-append}
 use lib.Seq.{drop-cons, drop-append-le, take-append-le, drop-append-seam, length-take-le, take-length}
-use Rattle.number.specs.Number.{pick, decimalOf, hexOf}
+use Rattle.terms.specs.Choice.{pick}
+use Rattle.number.specs.Number.{decimalOf, hexOf}
 use Rattle.number.specs.declared.Number.{Number}
 use Rattle.number.specs.declared.Number.the-variants.{Value, Wrong}
 use Rattle.formula.specs.Tree.{Tree, unknown, size, depth, prefix, all}
@@ -26,7 +27,7 @@ use Rattle.line.specs.Line as spec
 use Rattle.line.specs.declared.word.Word.{Word}
 use Rattle.line.specs.declared.word.Word.the-variants as word
 use Rattle.book.specs.Book.{Book, empty, isNil, whole, headOf, lastOf, bump, spend, Fault, fault, add, Outcome, accepted, refused, unless, readOn, read}
-use Rattle.reader.specs.Tables.{Tables, over, written, roomy, readInto}
+use Rattle.reader.specs.Tables.{BookTables, over, written, roomy, readInto}
 use Rattle.reader.proofs.Sounds.{Passed, passed, rules-left, nodes-left, node-inside, Sound, sound-empty, sound-add}
 use Rattle.reader.proofs.Runs.{accepted-lines, accepted-inj, unless-none}
 use Rattle.book_laws.proofs.Formulas.{Formulated, Opens, NodeOk, opens-first, opens-done, opens-node}
@@ -442,7 +443,7 @@ pub over-at : (xs l : List ℕ) (k : ℕ) → k < length xs → getD (over xs l)
 unfolding over
 over-at xs l k h = List·getD-append xs (drop (length xs) l) 0 k h
 
-pub into-accepted : (text : List ℕ) (t : Tables) (b : Book) → readInto text t ≡ accepted b → (roomy t ≡ true) × (read text ≡ accepted b)
+pub into-accepted : (text : List ℕ) (t : BookTables) (b : Book) → readInto text t ≡ accepted b → (roomy t ≡ true) × (read text ≡ accepted b)
 unfolding readInto
 into-accepted text t b e = go (roomy t) e
   where
@@ -450,7 +451,7 @@ into-accepted text t b e = go (roomy t) e
     go true e = (refl, e)
     go false e = accepted-refused e
 
-pub rule-in-tables : (b : Book) (t : Tables) (d : Done b) (k : ℕ) (h : k < length (b .labels)) → ruleOf (written b t .ops) (written b t .nums) (getD (written b t .firsts) k 0) (getD (written b t .counts) k 0) ≡ some (formula-at b d k h)
+pub rule-in-tables : (b : Book) (t : BookTables) (d : Done b) (k : ℕ) (h : k < length (b .labels)) → ruleOf (written b t .ops) (written b t .nums) (getD (written b t .firsts) k 0) (getD (written b t .counts) k 0) ≡ some (formula-at b d k h)
 unfolding written over
 rule-in-tables b t d k h =
     let s : Sound b = d .sound in
@@ -461,7 +462,7 @@ rule-in-tables b t d k h =
     ap₂ (ruleOf ops nums) first-is count-is
     ∙ rule-of ops nums (getD (b .firsts) k 0) (getD (b .counts) k 0) (formula-at b d k h) (rule-at b d k h (drop (length (b .ops)) (t .ops)) (drop (length (b .nums)) (t .nums)))
 
-pub rules-of-book : (text : List ℕ) (t : Tables) (b : Book) → readInto text t ≡ accepted b → (k : ℕ) → k < length (b .labels) → (f : Formula) × (ruleOf (written b t .ops) (written b t .nums) (getD (written b t .firsts) k 0) (getD (written b t .counts) k 0) ≡ some f)
+pub rules-of-book : (text : List ℕ) (t : BookTables) (b : Book) → readInto text t ≡ accepted b → (k : ℕ) → k < length (b .labels) → (f : Formula) × (ruleOf (written b t .ops) (written b t .nums) (getD (written b t .firsts) k 0) (getD (written b t .counts) k 0) ≡ some f)
 rules-of-book text t b e k h =
     let (m, a) = into-accepted text t b e in
     (formula-at b (accepted-done text b a) k h, rule-in-tables b t (accepted-done text b a) k h)

@@ -11,13 +11,15 @@ use native.Mathlib.Nat.{pow-succ', pow-zero, add-mul, mul-assoc, add-assoc}
 use borrow.Author.Tests.{lt-ltb, le-ltb, le-leb, eq-eqb, ne-eqb, leb-true}
 use lib.Dec.{eqb, leb, ltb}
 use lib.ListN.{length, getD, take, drop, length-append}
-use Rattle.number.specs.Number.{pick, digitOf, below, places, plain, valueIn, decimalOf, hexOf}
+use Rattle.terms.specs.Choice.{pick}
+use Rattle.number.specs.Number.{digitOf, below, places, plain, valueIn, decimalOf, hexOf}
 use Rattle.number.specs.declared.Number.{Number}
 use Rattle.number.specs.declared.Number.the-variants.{Value, Wrong}
 use Rattle.number.proofs.Numbers.{below-or}
 use Rattle.line.specs.Text.{parts, onto, lines, fields}
 use Rattle.line.specs.Line.{printable, isLabel}
-use Rattle.book_laws.specs.Write.{digits, decimal, hexByte, hexDigits, unlines}
+use Rattle.number.specs.Digits.{digits, decimal, hexByte, hexDigits}
+use Rattle.book_laws.specs.Write.{unlines}
 
 -- ---- bytes that a run is free of
 unfoldable pub free : ℕ → List ℕ → Bool

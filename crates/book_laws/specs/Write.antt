@@ -5,14 +5,14 @@
 use mathlib.Core.Path.{_≡_}
 use mathlib.Core.Bool.{Bool, true, false, _&&_}
 use mathlib.Core.List.{List, [], _∷_, _++_, map}
-use Prim.Native.Nat.{ℕ, zero, suc, _+_, _/_, _%_, _^_, _≤_, _<_}
-use lib.Dec.{ltb}
+use Prim.Native.Nat.{ℕ, zero, suc, _+_, _^_, _≤_, _<_}
 use lib.ListN.{length}
-use Rattle.number.specs.Number.{pick}
+use Rattle.terms.specs.Limits.{bookBytes, bookNodes, bookRules, deepest, ruleNodes}
+use Rattle.number.specs.Digits.{decimal, hexDigits}
 use Rattle.formula.specs.Tree.{leaf-of, one-of, two-of, unknown, prefix, size, depth, all}
 use Rattle.formula.specs.Formula.{Formula, Node, var, input, output, not, next, always, eventually, always-for, within, and, or, implies, until}
 use Rattle.formula.specs.Table.{inWord}
-use Rattle.line.specs.Line.{isLabel}
+use Rattle.line.specs.Line.{isLabel, kindByte}
 use Rattle.book.specs.Book.{Book, StepLine, accepted, read}
 
 -- a rule of the list: its label, its kind (0 property, 1 assumption) and its formula
@@ -20,24 +20,6 @@ pub record RuleText : Type 0 where
   pub label : List ℕ
   pub kind : ℕ
   pub formula : Formula
-
--- ---- numbers
--- at most k decimal digits
-unfoldable pub digits : ℕ → ℕ → List ℕ
-digits zero n = []
-digits (suc k) n = pick (ltb n 10) ((48 + n) ∷ []) (digits k (n / 10) ++ (48 + n % 10) ∷ [])
-
--- below 2^64 there are at most 20
-abbrev pub decimal : ℕ → List ℕ
-decimal n = digits 20 n
-
-abbrev pub hexByte : ℕ → ℕ
-hexByte d = pick (ltb d 10) (48 + d) (87 + d)
-
--- exactly k hexadecimal digits
-unfoldable pub hexDigits : ℕ → ℕ → List ℕ
-hexDigits zero n = []
-hexDigits (suc k) n = hexDigits k (n / 16) ++ hexByte (n % 16) ∷ []
 
 -- ---- lines
 -- a node's number in a formula table, the number beside it, and its line: `var`, `in`, `out`, `not`, `next`, `always`, `eventually`,
@@ -87,11 +69,6 @@ nodeText (two-of implies) = 105 ∷ 109 ∷ 112 ∷ 108 ∷ 105 ∷ 101 ∷ 115 
 nodeText (two-of until) = 117 ∷ 110 ∷ 116 ∷ 105 ∷ 108 ∷ []
 nodeText unknown = []
 
--- `P` or `A`
-abbrev pub kindByte : ℕ → ℕ
-kindByte zero = 80
-kindByte (suc k) = 65
-
 -- `rule`, the label, the kind
 abbrev pub headText : RuleText → List ℕ
 headText r = 114 ∷ 117 ∷ 108 ∷ 101 ∷ 9 ∷ (r .label ++ 9 ∷ kindByte (r .kind) ∷ [])
@@ -121,8 +98,8 @@ Bounded (t ∷ ts) = (numOf t < 2 ^ 64) × Bounded ts
 pub record RuleLimited (r : RuleText) : Type 0 where
   pub labelled : isLabel (r .label) ≡ true
   pub kinds : r .kind < 2
-  pub nodes : size (r .formula) ≤ 256
-  pub shallow : depth (r .formula) ≤ 64
+  pub nodes : size (r .formula) ≤ ruleNodes
+  pub shallow : depth (r .formula) ≤ deepest
   pub in-word : all inWord (r .formula) ≡ true
   pub bounds : Bounded (prefix (r .formula))
 
@@ -140,9 +117,9 @@ nodesOf [] = []
 nodesOf (r ∷ rs) = prefix (r .formula) ++ nodesOf rs
 
 pub record Limited (rs : List RuleText) (ss : List StepLine) : Type 0 where
-  pub short : length (bookText rs ss) ≤ 65535
-  pub few : length rs ≤ 64
-  pub nodes : length (nodesOf rs) ≤ 1024
+  pub short : length (bookText rs ss) ≤ bookBytes
+  pub few : length rs ≤ bookRules
+  pub nodes : length (nodesOf rs) ≤ bookNodes
   pub rules : RulesLimited rs
   pub steps : StepsLimited ss
 

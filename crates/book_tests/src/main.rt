@@ -5,6 +5,8 @@ use reader::read::Answer;
 use reader::read::read_book;
 use reader::steps::StepRead;
 use reader::steps::next_step;
+use terms::limit::BOOK_NODES;
+use terms::limit::BOOK_RULES;
 
 fn put(s: &[u8]) {
     io::write_all(STDOUT_FILENO, s);
@@ -59,7 +61,7 @@ fn kept_words(s: &[u64], from: usize) -> bool {
 }
 
 fn kept_labels(s: &[u8], rules: usize) -> bool {
-    if 64 < rules {
+    if BOOK_RULES < rules {
         return false;
     }
     kept_bytes(s, 32 * rules, 46)
@@ -82,7 +84,7 @@ fn show_rule(
     counts: &[usize],
     i: usize,
 ) {
-    if 64 <= i {
+    if BOOK_RULES <= i {
         return;
     }
     let a = 32 * i;
@@ -221,10 +223,10 @@ fn read_text(text: &[u8]) {
     let mut labels = [46u8; 2050];
     let mut lens = [7usize; 66];
     let mut kinds = [7u8; 65];
-    let mut firsts = [7usize; 64];
+    let mut firsts = [7usize; BOOK_RULES];
     let mut counts = [7usize; 70];
     let mut ops = [7u8; 1030];
-    let mut nums = [7u64; 1024];
+    let mut nums = [7u64; BOOK_NODES];
     let answer = read_book(
         text,
         &mut labels,
@@ -251,12 +253,12 @@ fn read_text(text: &[u8]) {
 // Tables that are too short: refusal 1, before 3.
 fn read_short(text: &[u8]) {
     let mut labels = [46u8; 2048];
-    let mut lens = [7usize; 64];
-    let mut kinds = [7u8; 64];
-    let mut firsts = [7usize; 64];
+    let mut lens = [7usize; BOOK_RULES];
+    let mut kinds = [7u8; BOOK_RULES];
+    let mut firsts = [7usize; BOOK_RULES];
     let mut counts = [7usize; 63];
-    let mut ops = [7u8; 1024];
-    let mut nums = [7u64; 1024];
+    let mut ops = [7u8; BOOK_NODES];
+    let mut nums = [7u64; BOOK_NODES];
     let answer = read_book(
         text,
         &mut labels,

@@ -4,6 +4,7 @@ use libc::STDIN_FILENO;
 use libc::STDOUT_FILENO;
 use listing::whole::Listed;
 use listing::whole::list_book;
+use terms::limit::LISTING_BYTES;
 ghost use lib.ListN.{length, take};
 ghost use mathlib.Core.Path.{_≡_};
 ghost use Rattle.io.specs.Counts.{Counts};
@@ -61,7 +62,7 @@ fn read_input(fd: i32, buf: &mut [u8]) -> Input
 }
 
 // The listing of a text: the first r bytes of `out`.
-fn list(text: &[u8], out: &mut [u8; 262144]) -> usize
+fn list(text: &[u8], out: &mut [u8; LISTING_BYTES]) -> usize
     ensures { λ r. ⌜ Counts r (now (out .exit)) ⌝ }
     ensures { λ r. ⌜ take r (now (out .exit)) ≡ listing (now (text .entry)) ⌝ }
 {
@@ -84,7 +85,7 @@ fn main() {
             os::fail(b"cavewatch: nothing is listed, reading the book failed");
         }
         Input::Bytes(n) => {
-            let mut out = [0u8; 262144];
+            let mut out = [0u8; LISTING_BYTES];
             let r = list(&text[..n], &mut out);
             if !io::write_all(STDOUT_FILENO, &out[..r]) {
                 os::fail(b"cavewatch: the listing is cut short, writing it failed");

@@ -8,7 +8,7 @@ use native.Mathlib.Nat.{add-mul-mod-self-left, mod-eq-of-lt, add-mul-div-left, d
 use lib.Seq.{sets}
 use Rattle.result.specs.Result.{Result, given}
 use Rattle.book.specs.Book.{BookResult, bookResult, refused}
-use Rattle.reader.specs.Tables.{Tables, readInto}
+use Rattle.reader.specs.Tables.{BookTables, readInto}
 use Rattle.reader.specs.Answer as Reading
 use Rattle.reader.specs.Answer.{Reads}
 use Rattle.reader.specs.Steps as Steps
@@ -24,7 +24,7 @@ use Rattle.stepping.specs.declared.fresh.Outcome.{Outcome}
 use Rattle.stepping.specs.declared.call.Verdict.{Verdict}
 use Rattle.node_step.specs.Memory.{Memory}
 use Rattle.lent.specs.Lent as Lent
-use Rattle.lent.specs.Lent.{Monitor}
+use Rattle.lent.specs.Lent.{LentMonitor}
 use Rattle.stepping.specs.Call as Stepping
 use Rattle.stepping.specs.Call.{stepCall}
 use Rattle.stepping.specs.Fresh as Making
@@ -48,7 +48,7 @@ module _ (x : Said) (found : List ℕ) (r : ℕ) (found′ : List ℕ) (s : Says
     found-is = s .found-is ∙ ap (λ (y : Told). sets found 0 (y .numbers)) (o ∙ ap f e);
   }
 
-  pub read-told : (text : List ℕ) (t : Tables) (a : Answer) (t′ : Tables)
+  pub read-told : (text : List ℕ) (t : BookTables) (a : Answer) (t′ : BookTables)
       → Reads text t a t′
       → toldBy x ≡ bookTold (Reading.resultOf a)
       → ReadBook text t found r t′ found′
@@ -72,7 +72,7 @@ module _ (x : Said) (found : List ℕ) (r : ℕ) (found′ : List ℕ) (s : Says
     nodes = d .leaves;
   }
 
-  pub run-told : (t : Lent.Tables) (k : Monitor) (s : ℕ) (words : List ℕ) (v : RunVerdict) (mem′ : Memory)
+  pub run-told : (t : Lent.LentTables) (k : LentMonitor) (s : ℕ) (words : List ℕ) (v : RunVerdict) (mem′ : Memory)
       → Runs.Answers (runCall t k s words) v mem′
       → toldBy x ≡ told runTold (Runs.resultOf v)
       → Run t k s words found r mem′ found′
@@ -91,7 +91,7 @@ module _ (x : Said) (found : List ℕ) (r : ℕ) (found′ : List ℕ) (s : Says
   }
 
 -- ---- the calls that answer a number alone
-module _ (t : Lent.Tables) (r : ℕ) where
+module _ (t : Lent.LentTables) (r : ℕ) where
   pub fresh-told : (forms bounds : List ℕ) (mem : Memory) (o : Outcome) (forms′ bounds′ : List ℕ) (mem′ : Memory)
       → freshCall t forms bounds mem o forms′ bounds′ mem′
       → r ≡ told madeTold (Making.resultOf o) .number
@@ -103,7 +103,7 @@ module _ (t : Lent.Tables) (r : ℕ) where
     memory-is = d .memory-is;
   }
 
-  pub step-told : (k : Monitor) (s w : ℕ) (v : Verdict) (mem′ : Memory)
+  pub step-told : (k : LentMonitor) (s w : ℕ) (v : Verdict) (mem′ : Memory)
       → Stepping.Answers (stepCall t k s w) v mem′
       → r ≡ told stepTold (Stepping.resultOf v) .number
       → Step t k s w r mem′
@@ -113,7 +113,7 @@ module _ (t : Lent.Tables) (r : ℕ) where
   }
 
 -- ---- a refused book's number
-pub read-small : (text : List ℕ) (t : Tables) (a : Answer) (t′ : Tables) → Reads text t a t′ → SmallLine a
+pub read-small : (text : List ℕ) (t : BookTables) (a : Answer) (t′ : BookTables) → Reads text t a t′ → SmallLine a
 read-small text t (Read r n s) t′ d = tt
 read-small text t (Refused n k) t′ d =
     let s = refused-small text t n k (refused-inv text t t′ n k d .0) in

@@ -4,12 +4,12 @@ use mathlib.Core.List.{List}
 use Prim.Native.Nat.{ℕ}
 use Rattle.result.specs.Result.{given}
 use Rattle.book.specs.Book.{bookResult}
-use Rattle.reader.specs.Tables.{Tables, readInto, after}
+use Rattle.reader.specs.Tables.{BookTables, readInto, after}
 use Rattle.reader.specs.Steps.{nextStep}
 use Rattle.compiler.specs.Compiled.{compileCall}
 use Rattle.node_step.specs.Memory.{Memory}
 use Rattle.lent.specs.Lent as Lent
-use Rattle.lent.specs.Lent.{Monitor}
+use Rattle.lent.specs.Lent.{LentMonitor}
 use Rattle.stepping.specs.Call.{stepCall}
 use Rattle.stepping.specs.Fresh.{making}
 use Rattle.runs.specs.Run.{runCall}
@@ -17,7 +17,7 @@ use Rattle.listing.specs.Lists.{listCall}
 use Rattle.cavewatch_c.specs.Numbers.{told, bookTold, lineTold, countTold, madeTold, stepTold, runTold}
 use Rattle.cavewatch_c.specs.Said.{Says}
 
-pub record ReadBook (text : List ℕ) (t : Tables) (found : List ℕ) (r : ℕ) (t′ : Tables) (found′ : List ℕ) : Type 0 where
+pub record ReadBook (text : List ℕ) (t : BookTables) (found : List ℕ) (r : ℕ) (t′ : BookTables) (found′ : List ℕ) : Type 0 where
   pub says : Says (bookTold (bookResult (readInto text t))) found r found′
   pub tables : t′ ≡ after (readInto text t) t
 
@@ -28,17 +28,17 @@ pub record CompileRule (ops nums : List ℕ) (first count : ℕ) (out found : Li
   pub says : Says (told countTold (compileCall ops nums first count out .answer)) found r found′
   pub nodes : out′ ≡ compileCall ops nums first count out .out
 
-pub record Fresh (t : Lent.Tables) (forms bounds : List ℕ) (mem : Memory) (r : ℕ) (forms′ bounds′ : List ℕ) (mem′ : Memory) : Type 0 where
+pub record Fresh (t : Lent.LentTables) (forms bounds : List ℕ) (mem : Memory) (r : ℕ) (forms′ bounds′ : List ℕ) (mem′ : Memory) : Type 0 where
   pub number : r ≡ told madeTold (making t forms bounds mem .answer) .number
   pub forms-are : forms′ ≡ making t forms bounds mem .forms
   pub bounds-are : bounds′ ≡ making t forms bounds mem .bounds
   pub memory-is : mem′ ≡ making t forms bounds mem .memory
 
-pub record Step (t : Lent.Tables) (k : Monitor) (s w : ℕ) (r : ℕ) (mem′ : Memory) : Type 0 where
+pub record Step (t : Lent.LentTables) (k : LentMonitor) (s w : ℕ) (r : ℕ) (mem′ : Memory) : Type 0 where
   pub number : r ≡ told stepTold (stepCall t k s w .answer) .number
   pub memory : mem′ ≡ stepCall t k s w .memory
 
-pub record Run (t : Lent.Tables) (k : Monitor) (s : ℕ) (words found : List ℕ) (r : ℕ) (mem′ : Memory) (found′ : List ℕ) : Type 0 where
+pub record Run (t : Lent.LentTables) (k : LentMonitor) (s : ℕ) (words found : List ℕ) (r : ℕ) (mem′ : Memory) (found′ : List ℕ) : Type 0 where
   pub says : Says (told runTold (runCall t k s words .answer)) found r found′
   pub memory : mem′ ≡ runCall t k s words .memory
 

@@ -3,6 +3,7 @@ use mathlib.Core.List.{List, [], _∷_}
 use mathlib.Core.Path.{_≡_}
 use Prim.Native.Nat.{ℕ, _≤_}
 use lib.Seq.{sets}
+use Rattle.terms.specs.Limits.{bookBytes}
 use Rattle.reader.specs.declared.read.Answer.{Answer}
 use Rattle.reader.specs.declared.read.Answer.the-variants.{Read, Refused}
 use Rattle.cavewatch_c.specs.Numbers.{Told, tell}
@@ -21,4 +22,4 @@ toldBy (Three a b c) = tell 0 (a ∷ b ∷ c ∷ [])
 -- a refusal of a book has a number up to 10 and a line up to 65,535
 abbrev pub SmallLine : Answer → Type 0
 SmallLine (Read r n s) = Unit
-SmallLine (Refused n k) = (n ≤ 10) × (k ≤ 65535)
+SmallLine (Refused n k) = (n ≤ 10) × (k ≤ bookBytes)

@@ -7,6 +7,7 @@ use listing::whole::list_book;
 use reader::read::read_book;
 use reader::steps::next_step;
 ghost use Rattle.cavewatch_c.specs.Calls.{ReadBook, NextStep, ListBook};
+ghost use Rattle.reader.specs.Tables.{columns};
 
 // Reads a book into lent tables.
 #[no_mangle]
@@ -21,7 +22,11 @@ pub extern "C" fn cavewatch_read_book(
     nums: &mut [u64],
     found: &mut [u64; 3],
 ) -> u64
-    ensures { λ r. ⌜ ReadBook (now (text .entry)) (record { labels = now (labels .entry); lens = now (lens .entry); kinds = now (kinds .entry); firsts = now (firsts .entry); counts = now (counts .entry); ops = now (ops .entry); nums = now (nums .entry) }) (now (found .entry)) r (record { labels = now (labels .exit); lens = now (lens .exit); kinds = now (kinds .exit); firsts = now (firsts .exit); counts = now (counts .exit); ops = now (ops .exit); nums = now (nums .exit) }) (now (found .exit)) ⌝ }
+    ensures { λ r. ⌜ ReadBook (now (text .entry))
+        (columns (now (labels .entry)) (now (lens .entry)) (now (kinds .entry)) (now (firsts .entry)) (now (counts .entry)) (now (ops .entry))
+        (now (nums .entry))) (now (found .entry)) r
+        (columns (now (labels .exit)) (now (lens .exit)) (now (kinds .exit)) (now (firsts .exit)) (now (counts .exit)) (now (ops .exit))
+        (now (nums .exit))) (now (found .exit)) ⌝ }
 {
     let answer = read_book(text, labels, lens, kinds, firsts, counts, ops, nums);
     say(tell_read(answer), found)

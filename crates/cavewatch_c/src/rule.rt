@@ -9,6 +9,8 @@ use runs::run;
 use stepping::call::step;
 use stepping::fresh::fresh;
 ghost use Rattle.cavewatch_c.specs.Calls.{CompileRule, Fresh, Step, Run};
+ghost use Rattle.node_step.specs.Memory.{entries};
+ghost use Rattle.lent.specs.Lent.{monitorOf, tables};
 
 // Compiles the rule of `count` nodes at `first` into the rows of `nodes`.
 #[no_mangle]
@@ -43,7 +45,9 @@ pub extern "C" fn cavewatch_fresh(
     failed: &mut [bool],
     culprits: &mut [i64],
 ) -> u64
-    ensures { λ r. ⌜ Fresh (record { ops = now (ops .entry); nums = now (nums .entry); first = first; count = count; nodes = now (nodes .entry); nfirst = nfirst; ncount = ncount }) (now (forms .entry)) (now (bounds .entry)) (record { held = now (held .entry); remaining = now (remaining .entry); failed = now (failed .entry); culprits = now (culprits .entry) }) r (now (forms .exit)) (now (bounds .exit)) (record { held = now (held .exit); remaining = now (remaining .exit); failed = now (failed .exit); culprits = now (culprits .exit) }) ⌝ }
+    ensures { λ r. ⌜ Fresh (tables (now (ops .entry)) (now (nums .entry)) first count (now (nodes .entry)) nfirst ncount) (now (forms .entry))
+        (now (bounds .entry)) (entries (now (held .entry)) (now (remaining .entry)) (now (failed .entry)) (now (culprits .entry))) r
+        (now (forms .exit)) (now (bounds .exit)) (entries (now (held .exit)) (now (remaining .exit)) (now (failed .exit)) (now (culprits .exit))) ⌝ }
 {
     let outcome = fresh(
         ops,
@@ -83,7 +87,10 @@ pub extern "C" fn cavewatch_step(
     s: u64,
     w: u64,
 ) -> u64
-    ensures { λ r. ⌜ Step (record { ops = now (ops .entry); nums = now (nums .entry); first = first; count = count; nodes = now (nodes .entry); nfirst = nfirst; ncount = ncount }) (record { size = size; forms = now (forms .entry); bounds = now (bounds .entry); memory = record { held = now (held .entry); remaining = now (remaining .entry); failed = now (failed .entry); culprits = now (culprits .entry) } }) s w r (record { held = now (held .exit); remaining = now (remaining .exit); failed = now (failed .exit); culprits = now (culprits .exit) }) ⌝ }
+    ensures { λ r. ⌜ Step (tables (now (ops .entry)) (now (nums .entry)) first count (now (nodes .entry)) nfirst ncount)
+        (monitorOf size (now (forms .entry)) (now (bounds .entry))
+        (entries (now (held .entry)) (now (remaining .entry)) (now (failed .entry)) (now (culprits .entry)))) s w r
+        (entries (now (held .exit)) (now (remaining .exit)) (now (failed .exit)) (now (culprits .exit))) ⌝ }
 {
     let verdict = step(
         ops,
@@ -127,7 +134,11 @@ pub extern "C" fn cavewatch_run(
     words: &[u64],
     found: &mut [u64; 3],
 ) -> u64
-    ensures { λ r. ⌜ Run (record { ops = now (ops .entry); nums = now (nums .entry); first = first; count = count; nodes = now (nodes .entry); nfirst = nfirst; ncount = ncount }) (record { size = size; forms = now (forms .entry); bounds = now (bounds .entry); memory = record { held = now (held .entry); remaining = now (remaining .entry); failed = now (failed .entry); culprits = now (culprits .entry) } }) s (now (words .entry)) (now (found .entry)) r (record { held = now (held .exit); remaining = now (remaining .exit); failed = now (failed .exit); culprits = now (culprits .exit) }) (now (found .exit)) ⌝ }
+    ensures { λ r. ⌜ Run (tables (now (ops .entry)) (now (nums .entry)) first count (now (nodes .entry)) nfirst ncount)
+        (monitorOf size (now (forms .entry)) (now (bounds .entry))
+        (entries (now (held .entry)) (now (remaining .entry)) (now (failed .entry)) (now (culprits .entry)))) s (now (words .entry))
+        (now (found .entry)) r (entries (now (held .exit)) (now (remaining .exit)) (now (failed .exit)) (now (culprits .exit)))
+        (now (found .exit)) ⌝ }
 {
     let verdict = run(
         ops,

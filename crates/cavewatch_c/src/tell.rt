@@ -47,7 +47,7 @@ pub fn say(said: Said, found: &mut [u64; 3]) -> u64
 }
 
 // A refusal's number and line are one number.
-pub fn tell_read(answer: Answer) -> Said
+pub(crate) fn tell_read(answer: Answer) -> Said
     requires { ⌜ SmallLine answer ⌝ }
     ensures { λ r. ⌜ toldBy r ≡ bookTold (Reading.resultOf answer) ⌝ }
 {

@@ -25,7 +25,7 @@ use Rattle.compiler.specs.declared.Compiled.the-variants.{Nodes, Refused
 use Rattle.monitor.specs.Range.{allOf, Shiftable}
 use Rattle.monitor.specs.Mon.{Mon, count, rows}
 use Rattle.monitor.specs.Compile.{faults, node, ruleFaults, ruleNode}
-use Rattle.compiler.specs.Compiled.{Ready, LaidAt, CompiledAt, Call, Answers, resultOf, firstOr, compileFormula, ruleCall, compileCall, orShort, refuse, refusedAs}
+use Rattle.compiler.specs.Compiled.{CompileReady, LaidAt, CompiledAt, Call, Answers, resultOf, firstOr, compileFormula, ruleCall, compileCall, orShort, refuse, refusedAs}
 use Rattle.compiler.proofs.Joining.{laid-upto, laid-no, rows-length, count-size}
 
 pub refused-as : (l : Laid) (n : ℕ) → l ≡ Refused n → NotCompiled n ≡ refusedAs l
@@ -42,7 +42,7 @@ module _ (ops nums : List ℕ) (first count′ : ℕ) (u : IsRule ops nums first
   rule : Rule ops nums first count′ (u .formula)
   rule = rule-inv ops nums first count′ (u .formula) (u .is)
 
-  pub ready-rule : (r : AnchorRange) (z : List ℕ) → r ≡ allOf → 1792 ≤ length z → Ready ops nums first r z 0
+  pub ready-rule : (r : AnchorRange) (z : List ℕ) → r ≡ allOf → 1792 ≤ length z → CompileReady ops nums first r z 0
   ready-rule r z e h =
       let t = rule in
       record {

@@ -30,11 +30,11 @@ use Rattle.compiler.specs.declared.Laid.the-variants.{Upto, Refused}
 use Rattle.monitor.specs.Range.{allOf, uptoOf, shiftedOf, Shiftable}
 use Rattle.monitor.specs.Mon.{always-true, at, Check, range-check, delayed-check, obligation, Mon, check, And, Or, count, rows, nodeRow, nodeOf}
 use Rattle.monitor.specs.Compile.{when, unless, consequent, faults, anchor, implication, node}
-use Rattle.compiler.specs.Compiled.{Ready, Implied, LaidAt, CompiledAt}
+use Rattle.compiler.specs.Compiled.{CompileReady, Implied, LaidAt, CompiledAt}
 use Rattle.compiler.proofs.Words.{is-not, is-next, is-always, is-eventually, is-always-for, is-within, is-and, is-or, is-implies, is-until}
 
 -- ---- what a walk is handed
-module _ (ops nums : List ℕ) (i : ℕ) (r : AnchorRange) (out : List ℕ) (to : ℕ) (d : Ready ops nums i r out to) where
+module _ (ops nums : List ℕ) (i : ℕ) (r : AnchorRange) (out : List ℕ) (to : ℕ) (d : CompileReady ops nums i r out to) where
   pub ready-in-ops : i < length ops
   ready-in-ops = in-ops ops nums i (d .place)
 
@@ -178,7 +178,7 @@ other ops nums j (two o m n) s h h′ l i r t = (refl, refl)
 pub purely-upto : (ops nums : List ℕ) (i e : ℕ) (w : Walk) → Purely ops nums i w → w ≡ Ends e → Purely ops nums i (Ends e)
 purely-upto ops nums i e w p q = subst (Purely ops nums i) q p
 
-module _ (ops nums : List ℕ) (i : ℕ) (r : AnchorRange) (out : List ℕ) (to : ℕ) (d : Ready ops nums i r out to) (h : getD ops i 0 ≡ 11) where
+module _ (ops nums : List ℕ) (i : ℕ) (r : AnchorRange) (out : List ℕ) (to : ℕ) (d : CompileReady ops nums i r out to) (h : getD ops i 0 ≡ 11) where
   pub placed-antecedent : Placed ops nums (i + 1)
   placed-antecedent = placed-left ops nums i (d .place) (omega arith)
 

@@ -10,6 +10,7 @@ use lib.Dec.{eqb, ltb}
 use lib.ListN.{length, getD, length-append}
 use lib.Seq.{sets, length-sets}
 use borrow.Author.Tests.{eq-eqb, ne-eqb, lt-ltb, le-ltb}
+use Rattle.terms.specs.Choice.{pick}
 use Rattle.formula.specs.Tree.{leaf, one, two, one-of, two-of, size}
 use Rattle.formula.specs.Spells.{Spells}
 use Rattle.formula.specs.Formula.{Formula, Binary, not, next, always, eventually, always-for, within, and, or, implies, until}
@@ -24,10 +25,10 @@ use Rattle.monitor.specs.declared.node.MonNode.the-variants.{And as AndNode, Or
 use Rattle.compiler.specs.declared.Laid.{Laid}
 use Rattle.compiler.specs.declared.Laid.the-variants.{Upto, Refused}
 use Rattle.monitor.specs.Range.{uptoOf, Shiftable}
-use Rattle.monitor.specs.Mon.{Mon, check, And, Or, count, rows, nodeRow, nodeOf, joinNode, pickNode}
+use Rattle.monitor.specs.Mon.{Mon, check, And, Or, count, rows, nodeRow, nodeOf, joinNode}
 use Rattle.monitor.specs.Table.{NodeNumbered}
 use Rattle.monitor.specs.Compile.{when, faults, node}
-use Rattle.compiler.specs.Compiled.{Ready, LaidAt, CompiledAt}
+use Rattle.compiler.specs.Compiled.{CompileReady, LaidAt, CompiledAt}
 use Rattle.compiler.proofs.Words.{is-always, is-eventually, is-always-for, is-and, is-or, is-until}
 use Rattle.monitor.proofs.Rows.{sets-append}
 use Rattle.compiler.proofs.Compiling.{laid-refused}
@@ -83,8 +84,8 @@ laid-no (n ∷ ns) m to e k out out′ z w q = (ns, ap (λ (x : ℕ). x ∷ ns) 
     inj h = cc
 
 -- ---- always
-module _ (ops nums : List ℕ) (i : ℕ) (r : AnchorRange) (out : List ℕ) (to : ℕ) (d : Ready ops nums i r out to) where
-  ready-operand : (r′ : AnchorRange) → Shiftable r′ → 3 ≤ getD ops i 0 → getD ops i 0 < 9 → Ready ops nums (i + 1) r′ out to
+module _ (ops nums : List ℕ) (i : ℕ) (r : AnchorRange) (out : List ℕ) (to : ℕ) (d : CompileReady ops nums i r out to) where
+  ready-operand : (r′ : AnchorRange) → Shiftable r′ → 3 ≤ getD ops i 0 → getD ops i 0 < 9 → CompileReady ops nums (i + 1) r′ out to
   unfolding size
   ready-operand r′ b g h =
       let p = d .place in
@@ -96,10 +97,10 @@ module _ (ops nums : List ℕ) (i : ℕ) (r : AnchorRange) (out : List ℕ) (to 
         shift = b;
       }
 
-  pub ready-always : getD ops i 0 ≡ 5 → Ready ops nums (i + 1) r out to
+  pub ready-always : getD ops i 0 ≡ 5 → CompileReady ops nums (i + 1) r out to
   ready-always h = ready-operand r (d .shift) (omega arith) (omega arith)
 
-  pub ready-always-for : (r′ : AnchorRange) (b : ℕ) → getD ops i 0 ≡ 7 → b < 2 ^ 64 → (b ≡ 0 → ⊥) → r′ ≡ uptoOf (b - 1) → Ready ops nums (i + 1) r′ out to
+  pub ready-always-for : (r′ : AnchorRange) (b : ℕ) → getD ops i 0 ≡ 7 → b < 2 ^ 64 → (b ≡ 0 → ⊥) → r′ ≡ uptoOf (b - 1) → CompileReady ops nums (i + 1) r′ out to
   ready-always-for r′ b h k n e = ready-operand r′ (subst Shiftable (sym e) (record { start = omega arith; finish = omega (arith, pos-of-ne-zero n) })) (omega arith) (omega arith)
 
   pub falls-operand : (t : ℕ) → 2 * (length ops - i) + 1 ≡ t → 2 * (length ops - (i + 1)) + 1 < t
@@ -151,15 +152,15 @@ module _ (ops nums : List ℕ) (i : ℕ) (r : AnchorRange) (t : Bool) (out : Lis
 
 -- ---- and, or
 pub join-and : (op : ℕ) → op < 10 → AndNode ≡ joinNode op
-join-and op h = sym (ap (λ (b : Bool). pickNode b AndNode OrNode) (lt-ltb op 10 h))
+join-and op h = sym (ap (λ (b : Bool). pick b AndNode OrNode) (lt-ltb op 10 h))
 
 pub join-or : (op : ℕ) → 10 ≤ op → OrNode ≡ joinNode op
-join-or op h = sym (ap (λ (b : Bool). pickNode b AndNode OrNode) (le-ltb op 10 h))
+join-or op h = sym (ap (λ (b : Bool). pick b AndNode OrNode) (le-ltb op 10 h))
 
 pub join-numbered : (op : ℕ) (n : MonNode) → n ≡ joinNode op → NodeNumbered n
 join-numbered op n e = subst NodeNumbered (sym e) (go (ltb op 10))
   where
-    go : (b : Bool) → NodeNumbered (pickNode b AndNode OrNode)
+    go : (b : Bool) → NodeNumbered (pick b AndNode OrNode)
     go true = (omega arith, omega arith)
     go false = (omega arith, omega arith)
 
@@ -205,7 +206,7 @@ module _ (ops nums : List ℕ) (i : ℕ) (r : AnchorRange) (t : Bool) (g : 9 ≤
       (below-or (getD ops i 0) 10)
 
   module _ (out : List ℕ) (to : ℕ) (n : MonNode) (out₁ : List ℕ) (e₀ : n ≡ joinNode (getD ops i 0)) (e₁ : out₁ ≡ sets out (7 * to) (nodeRow n)) where
-    pub ready-left : Ready ops nums i r out to → Ready ops nums (i + 1) r out₁ (to + 1)
+    pub ready-left : CompileReady ops nums i r out to → CompileReady ops nums (i + 1) r out₁ (to + 1)
     ready-left d =
         let p = d .place in
         let j = joins (p .formula) (p .spells) in
@@ -230,7 +231,7 @@ module _ (ops nums : List ℕ) (i : ℕ) (r : AnchorRange) (t : Bool) (g : 9 ≤
       }
 
       module _ (m b : ℕ) (q : left ≡ Upto m b) where
-        pub ready-right : Ready ops nums i r out to → Ready ops nums b r out₂ m
+        pub ready-right : CompileReady ops nums i r out to → CompileReady ops nums b r out₂ m
         ready-right d =
             let p = d .place in
             let j = joins (p .formula) (p .spells) in
@@ -243,7 +244,7 @@ module _ (ops nums : List ℕ) (i : ℕ) (r : AnchorRange) (t : Bool) (g : 9 ≤
               shift = d .shift;
             }
 
-        pub falls-right : (μ : ℕ) → Ready ops nums i r out to → 2 * (length ops - i) ≡ μ → 2 * (length ops - b) + 1 < μ
+        pub falls-right : (μ : ℕ) → CompileReady ops nums i r out to → 2 * (length ops - i) ≡ μ → 2 * (length ops - b) + 1 < μ
         falls-right μ d o =
             let p = d .place in
             let j = joins (p .formula) (p .spells) in

@@ -10,6 +10,7 @@ use Prim.Native.Nat.{ℕ, _+_, _*_, _≤_}
 use lib.Dec.{leb}
 use lib.ListN.{length, getD}
 use lib.Seq.{sets}
+use Rattle.terms.specs.Limits.{nodeCells}
 use Rattle.result.specs.Result.{Result, given, refused}
 use Rattle.formula.specs.Tree.{size}
 use Rattle.formula.specs.Spells.{Spells}
@@ -27,14 +28,14 @@ use Rattle.monitor.specs.Mon.{Mon, count, rows}
 use Rattle.monitor.specs.Compile.{faults, node, ruleFaults, ruleNode}
 
 -- what the walk asks of its place, its range and the output
-pub record Ready (ops nums : List ℕ) (i : ℕ) (r : AnchorRange) (out : List ℕ) (at : ℕ) : Type 0 where
+pub record CompileReady (ops nums : List ℕ) (i : ℕ) (r : AnchorRange) (out : List ℕ) (at : ℕ) : Type 0 where
   pub place : Placed ops nums i
   pub room : 7 * (at + size (place .formula)) ≤ length out
   pub shift : Shiftable r
 
 -- an implication stands at i, whose left part is pure and ends at j
 pub record Implied (ops nums : List ℕ) (i j : ℕ) (r : AnchorRange) (out : List ℕ) (at : ℕ) : Type 0 where
-  pub ready : Ready ops nums i r out at
+  pub ready : CompileReady ops nums i r out at
   pub word : getD ops i 0 ≡ 11
   pub left : Purely ops nums (i + 1) (Ends j)
 
@@ -78,7 +79,7 @@ ruleCall ops nums first count out = compileFormula (ruleOf ops nums first count)
 -- document 01's answer to compiling the rule at `first` of `count` nodes into `out`, for whatever is lent
 unfoldable pub compileCall : List ℕ → List ℕ → ℕ → ℕ → List ℕ → Call
 compileCall ops nums first count out =
-    orShort (roomy ops nums && leb 1792 (length out)) out (ruleCall ops nums first count out)
+    orShort (roomy ops nums && leb nodeCells (length out)) out (ruleCall ops nums first count out)
 
 -- the answer and the output afterwards are those of the call
 pub record Answers (c : Call) (r : Compiled) (out : List ℕ) : Type 0 where

@@ -7,16 +7,29 @@ use monitor::node::MonNode;
 use monitor::node::SignalExpr;
 use monitor::node::put_node;
 use monitor::range::AnchorRange;
+use terms::limit::NODE_CELLS;
+use terms::op::ALWAYS;
+use terms::op::ALWAYS_FOR;
+use terms::op::AND;
+use terms::op::IMPLIES;
+use terms::op::IN;
+use terms::op::NEXT;
+use terms::op::NOT;
+use terms::op::OR;
+use terms::op::OUT;
+use terms::op::VAR;
+use terms::op::WITHIN;
 ghost use mathlib.Core.Path.{_≡_};
-ghost use mathlib.Core.Bool.{Bool, true, false};
-ghost use Prim.Native.Nat.{ℕ, _+_, _*_, _≤_, _<_, _^_};
+ghost use mathlib.Core.Bool.{true, false};
+ghost use Prim.Native.Nat.{_+_, _*_, _≤_, _<_, _^_};
 ghost use lib.ListN.{length, getD, take};
 ghost use lib.Seq.{sets};
+ghost use Rattle.terms.specs.Limits.{nodeCells};
 ghost use Rattle.formula.specs.Table.{IsRule};
 ghost use Rattle.monitor.specs.Table.{NodeNumbered};
 ghost use Rattle.monitor.specs.Compile.{anchor};
 ghost use Rattle.monitor.specs.Mon.{nodeRow, joinNode};
-ghost use Rattle.compiler.specs.Compiled.{Ready, Implied, CompiledAt, Answers, ruleCall, compileCall, refusedAs};
+ghost use Rattle.compiler.specs.Compiled.{CompileReady, Implied, CompiledAt, Answers, ruleCall, compileCall, refusedAs};
 
 // Where a walk's nodes and its formula end, or the refusal.
 pub enum Laid {
@@ -43,7 +56,7 @@ fn compile_atom(
     out: &mut [u64],
     at: usize,
 ) -> Laid
-    requires { ⌜ Ready (now ops) (now nums) i range (now out) at × (getD (now ops) i 0 < 3) ⌝ }
+    requires { ⌜ CompileReady (now ops) (now nums) i range (now out) at × (getD (now ops) i 0 < 3) ⌝ }
     ensures { λ r. ⌜ CompiledAt (now (ops .entry)) (now (nums .entry)) i range temporal (now (out .entry)) at (now (out .exit)) r ⌝ }
 {
     let node = MonNode::RangeCheck {
@@ -62,7 +75,7 @@ fn compile_not(
     out: &mut [u64],
     at: usize,
 ) -> Laid
-    requires { ⌜ Ready (now ops) (now nums) i range (now out) at × (getD (now ops) i 0 ≡ 3) ⌝ }
+    requires { ⌜ CompileReady (now ops) (now nums) i range (now out) at × (getD (now ops) i 0 ≡ 3) ⌝ }
     ensures { λ r. ⌜ CompiledAt (now (ops .entry)) (now (nums .entry)) i range temporal (now (out .entry)) at (now (out .exit)) r ⌝ }
 {
     let Walk::Upto(e) = pure_at(ops, nums, i + 1) else {
@@ -84,7 +97,7 @@ fn compile_next(
     out: &mut [u64],
     at: usize,
 ) -> Laid
-    requires { ⌜ Ready (now ops) (now nums) i range (now out) at × (getD (now ops) i 0 ≡ 4) ⌝ }
+    requires { ⌜ CompileReady (now ops) (now nums) i range (now out) at × (getD (now ops) i 0 ≡ 4) ⌝ }
     ensures { λ r. ⌜ CompiledAt (now (ops .entry)) (now (nums .entry)) i range temporal (now (out .entry)) at (now (out .exit)) r ⌝ }
 {
     let Walk::Upto(e) = pure_at(ops, nums, i + 1) else {
@@ -116,7 +129,7 @@ fn compile_within(
     out: &mut [u64],
     at: usize,
 ) -> Laid
-    requires { ⌜ Ready (now ops) (now nums) i range (now out) at × (getD (now ops) i 0 ≡ 8) ⌝ }
+    requires { ⌜ CompileReady (now ops) (now nums) i range (now out) at × (getD (now ops) i 0 ≡ 8) ⌝ }
     ensures { λ r. ⌜ CompiledAt (now (ops .entry)) (now (nums .entry)) i range temporal (now (out .entry)) at (now (out .exit)) r ⌝ }
 {
     let Walk::Upto(e) = pure_at(ops, nums, i + 1) else {
@@ -215,17 +228,17 @@ fn compile_implies(
     out: &mut [u64],
     at: usize,
 ) -> Laid
-    requires { ⌜ Ready (now ops) (now nums) i range (now out) at × (getD (now ops) i 0 ≡ 11) ⌝ }
+    requires { ⌜ CompileReady (now ops) (now nums) i range (now out) at × (getD (now ops) i 0 ≡ 11) ⌝ }
     ensures { λ r. ⌜ CompiledAt (now (ops .entry)) (now (nums .entry)) i range temporal (now (out .entry)) at (now (out .exit)) r ⌝ }
 {
     let Walk::Upto(j) = pure_at(ops, nums, i + 1) else {
         return Laid::Refused(13);
     };
     let op = ops[j];
-    if op == 8 {
+    if op == WITHIN {
         return compile_owed(ops, nums, i, j, range, temporal, out, at);
     }
-    if op == 4 {
+    if op == NEXT {
         return compile_delayed(ops, nums, i, j, range, temporal, out, at);
     }
     compile_pure_implies(ops, nums, i, j, range, temporal, out, at)
@@ -235,7 +248,7 @@ fn compile_implies(
 fn join_node(op: u8) -> MonNode
     ensures { λ r. ⌜ r ≡ joinNode op ⌝ }
 {
-    if op < 10 {
+    if op < OR {
         return MonNode::And;
     }
     MonNode::Or
@@ -251,7 +264,7 @@ fn compile_pair(
     out: &mut [u64],
     at: usize,
 ) -> Laid
-    requires { ⌜ Ready (now ops) (now nums) i range (now out) at × (9 ≤ getD (now ops) i 0) × (getD (now ops) i 0 < 11) ⌝ }
+    requires { ⌜ CompileReady (now ops) (now nums) i range (now out) at × (9 ≤ getD (now ops) i 0) × (getD (now ops) i 0 < 11) ⌝ }
     ensures { λ r. ⌜ CompiledAt (now (ops .entry)) (now (nums .entry)) i range temporal (now (out .entry)) at (now (out .exit)) r ⌝ }
 {
     put_node(out, at, join_node(ops[i]));
@@ -272,7 +285,7 @@ fn compile_always_for(
     out: &mut [u64],
     at: usize,
 ) -> Laid
-    requires { ⌜ Ready (now ops) (now nums) i range (now out) at × (getD (now ops) i 0 ≡ 7) ⌝ }
+    requires { ⌜ CompileReady (now ops) (now nums) i range (now out) at × (getD (now ops) i 0 ≡ 7) ⌝ }
     ensures { λ r. ⌜ CompiledAt (now (ops .entry)) (now (nums .entry)) i range temporal (now (out .entry)) at (now (out .exit)) r ⌝ }
 {
     if temporal {
@@ -295,18 +308,18 @@ fn compile_check(
     out: &mut [u64],
     at: usize,
 ) -> Laid
-    requires { ⌜ Ready (now ops) (now nums) i range (now out) at ⌝ }
+    requires { ⌜ CompileReady (now ops) (now nums) i range (now out) at ⌝ }
     ensures { λ r. ⌜ CompiledAt (now (ops .entry)) (now (nums .entry)) i range temporal (now (out .entry)) at (now (out .exit)) r ⌝ }
 {
     match ops[i] {
-        0 | 1 | 2 => compile_atom(ops, nums, i, range, temporal, out, at),
-        3 => compile_not(ops, nums, i, range, temporal, out, at),
-        4 => compile_next(ops, nums, i, range, temporal, out, at),
-        5 => compile_check(ops, nums, i + 1, range, true, out, at),
-        7 => compile_always_for(ops, nums, i, range, temporal, out, at),
-        8 => compile_within(ops, nums, i, range, temporal, out, at),
-        9 | 10 => compile_pair(ops, nums, i, range, temporal, out, at),
-        11 => compile_implies(ops, nums, i, range, temporal, out, at),
+        VAR | IN | OUT => compile_atom(ops, nums, i, range, temporal, out, at),
+        NOT => compile_not(ops, nums, i, range, temporal, out, at),
+        NEXT => compile_next(ops, nums, i, range, temporal, out, at),
+        ALWAYS => compile_check(ops, nums, i + 1, range, true, out, at),
+        ALWAYS_FOR => compile_always_for(ops, nums, i, range, temporal, out, at),
+        WITHIN => compile_within(ops, nums, i, range, temporal, out, at),
+        AND | OR => compile_pair(ops, nums, i, range, temporal, out, at),
+        IMPLIES => compile_implies(ops, nums, i, range, temporal, out, at),
         _ => Laid::Refused(19),
     }
 }
@@ -331,10 +344,10 @@ pub enum Compiled {
 
 // A rule that is a formula within the limits. Its nodes are laid aside first, so that a refusal leaves the output as it was.
 fn compile_rule(ops: &[u8], nums: &[u64], first: usize, count: usize, out: &mut [u64]) -> Compiled
-    requires { ⌜ IsRule (now ops) (now nums) first count × (1792 ≤ length (now out)) ⌝ }
+    requires { ⌜ IsRule (now ops) (now nums) first count × (nodeCells ≤ length (now out)) ⌝ }
     ensures { λ r. ⌜ Answers (ruleCall (now (ops .entry)) (now (nums .entry)) first count (now (out .entry))) r (now (out .exit)) ⌝ }
 {
-    let mut aside = [0u64; 1792];
+    let mut aside = [0u64; NODE_CELLS];
     let laid = compile_check(ops, nums, first, AnchorRange::all(), false, &mut aside, 0);
     let Laid::Upto(n, _) = laid else {
         return refused(laid);
@@ -353,7 +366,7 @@ pub fn compile_formula(
 ) -> Compiled
     ensures { λ r. ⌜ Answers (compileCall (now (ops .entry)) (now (nums .entry)) first count (now (out .entry))) r (now (out .exit)) ⌝ }
 {
-    if out.len() < 1792 {
+    if out.len() < NODE_CELLS {
         return Compiled::Refused(1);
     }
     if is_roomy(ops, nums) {

@@ -3,6 +3,7 @@ use mathlib.Core.Bool.{Bool, true, false, _&&_, _||_}
 use mathlib.Core.Bool as bool
 use Prim.Native.Nat.{ℕ, _/_, _%_, _^_}
 use lib.Dec.{eqb, ltb}
+use Rattle.terms.specs.Choice.{pick}
 use Rattle.formula.specs.Tree.{leaf, one, two}
 use Rattle.formula.specs.Formula.{Formula, signal, not, next, always, eventually, always-for, within, and, or, implies, until}
 
@@ -38,9 +39,5 @@ value (two implies l r) w = bool.not (value l w) || value r w
 value (two until l r) w = false
 
 -- two values joined by a word's number: up to 9 it is and, 10 or, past that implies
-abbrev pub pick : Bool → Bool → Bool → Bool
-pick true a b = a
-pick false a b = b
-
 abbrev pub joined : ℕ → Bool → Bool → Bool
 joined op l r = pick (ltb op 10) (l && r) (pick (ltb op 11) (l || r) (bool.not l || r))

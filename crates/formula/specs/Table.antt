@@ -10,6 +10,7 @@ use mathlib.Core.Option.{Option, none, some}
 use Prim.Native.Nat.{ℕ, _+_, _≤_}
 use lib.Dec.{leb}
 use lib.ListN.{length, getD}
+use Rattle.terms.specs.Limits.{bookNodes, deepest, ruleNodes}
 use Rattle.formula.specs.Tree.{treeOf, size, depth, all}
 use Rattle.formula.specs.Spells.{run, Spells}
 use Rattle.formula.specs.Formula.{Atom, Formula, Node, node, signal}
@@ -28,17 +29,13 @@ keep false o = none
 -- within the limits of one formula
 abbrev pub limited : Option Formula → Option Formula
 limited none = none
-limited (some f) = keep (leb (depth f) 64 && all inWord f) (some f)
+limited (some f) = keep (leb (depth f) deepest && all inWord f) (some f)
 
--- a formula table has at most 1,024 nodes, however much is lent
-abbrev pub tablePlaces : ℕ
-tablePlaces = 1024
-
--- the part has at most 256 places, all of them in the table
+-- the part has at most 256 places, all of them among a table's first 1,024, however much is lent
 abbrev pub inTable : List ℕ → List ℕ → ℕ → ℕ → Bool
 inTable ops nums first count =
-    leb count 256
-    && (leb (first + count) tablePlaces && (leb (first + count) (length ops) && leb (first + count) (length nums)))
+    leb count ruleNodes
+    && (leb (first + count) bookNodes && (leb (first + count) (length ops) && leb (first + count) (length nums)))
 
 unfoldable pub ruleOf : List ℕ → List ℕ → ℕ → ℕ → Option Formula
 ruleOf ops nums first count =
@@ -47,13 +44,13 @@ ruleOf ops nums first count =
 -- the same as a statement: the part is in the table and spells f, which keeps the limits.
 -- `rule-inv` and `rule-of` (proofs/Rules.antt): `ruleOf` gives f exactly where this holds
 pub record Rule (ops nums : List ℕ) (first count : ℕ) (f : Formula) : Type 0 where
-  pub few : count ≤ 256
-  pub in-table : first + count ≤ tablePlaces
+  pub few : count ≤ ruleNodes
+  pub in-table : first + count ≤ bookNodes
   pub in-ops : first + count ≤ length ops
   pub in-nums : first + count ≤ length nums
   pub spells : Spells (nodeAt ops nums) first f
   pub covers : size f ≡ count
-  pub shallow : depth f ≤ 64
+  pub shallow : depth f ≤ deepest
   pub in-word : all inWord f ≡ true
 
 abbrev pub isSome {ℓ} : {A : Type ℓ} → Option A → Bool
@@ -74,4 +71,4 @@ pub record Placed (ops nums : List ℕ) (i : ℕ) : Type 0 where
 
 -- refusal 1: a lent table has room for 1,024 formula nodes
 abbrev pub roomy : List ℕ → List ℕ → Bool
-roomy ops nums = leb tablePlaces (length ops) && leb tablePlaces (length nums)
+roomy ops nums = leb bookNodes (length ops) && leb bookNodes (length nums)

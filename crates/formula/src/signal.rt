@@ -1,7 +1,12 @@
 // Signals: pure formulas, found and evaluated by recursion on their place in the table.
 use crate::table::Walk;
+use terms::op::AND;
+use terms::op::IMPLIES;
+use terms::op::NEXT;
+use terms::op::NOT;
+use terms::op::OR;
 ghost use mathlib.Core.Path.{_≡_};
-ghost use mathlib.Core.Bool.{Bool, _&&_, _||_, not};
+ghost use mathlib.Core.Bool.{_&&_, _||_};
 ghost use Prim.Native.Nat.{_≤_, _<_};
 ghost use lib.ListN.{getD};
 ghost use Rattle.formula.specs.Table.{Placed};
@@ -17,13 +22,13 @@ pub fn pure_at(ops: &[u8], nums: &[u64], i: usize) -> Walk
     if 12 <= op {
         return Walk::Stuck;
     }
-    if op < 3 {
+    if op < NOT {
         return Walk::Upto(i + 1);
     }
-    if op < 4 {
+    if op < NEXT {
         return pure_at(ops, nums, i + 1);
     }
-    if op < 9 {
+    if op < AND {
         return Walk::Stuck;
     }
     let left = pure_at(ops, nums, i + 1);
@@ -51,13 +56,13 @@ pub struct Value {
 fn join(op: u8, left: bool, right: bool) -> bool
     ensures { λ r. ⌜ r ≡ joined op left right ⌝ }
 {
-    if op < 10 {
+    if op < OR {
         if left {
             return right;
         }
         return false;
     }
-    if op < 11 {
+    if op < IMPLIES {
         if left {
             return true;
         }
@@ -98,7 +103,7 @@ fn node_at(ops: &[u8], nums: &[u64], i: usize, word: u64) -> Value
 {
     let op = ops[i];
     let left = value_at(ops, nums, i + 1, word);
-    if op < 4 {
+    if op < NEXT {
         return Value {
             value: !left.value,
             end: left.end,

@@ -1,4 +1,11 @@
 // The formula table: an operation and a number for each node, in prefix order.
+use terms::limit::BOOK_NODES;
+use terms::limit::DEEPEST;
+use terms::limit::RULE_NODES;
+use terms::limit::SIGNALS;
+use terms::op::AND;
+use terms::op::NOT;
+use terms::op::WORDS;
 ghost use mathlib.Core.Path.{_≡_};
 ghost use Prim.Native.Nat.{_≤_};
 ghost use lib.ListN.{length};
@@ -23,17 +30,17 @@ fn tree_at(ops: &[u8], nums: &[u64], i: usize, end: usize, room: usize) -> Walk
         return Walk::Stuck;
     }
     let op = ops[i];
-    if 13 <= op {
+    if WORDS <= op {
         return Walk::Stuck;
     }
-    if op < 3 {
-        if nums[i] < 64 {
+    if op < NOT {
+        if nums[i] < SIGNALS {
             return Walk::Upto(i + 1);
         }
         return Walk::Stuck;
     }
     let first = tree_at(ops, nums, i + 1, end, room - 1);
-    if op < 9 {
+    if op < AND {
         return first;
     }
     let Walk::Upto(e) = first else {
@@ -46,10 +53,10 @@ fn tree_at(ops: &[u8], nums: &[u64], i: usize, end: usize, room: usize) -> Walk
 pub fn is_rule(ops: &[u8], nums: &[u64], first: usize, count: usize) -> bool
     ensures { λ r. ⌜ r ≡ isSome (ruleOf (now (ops .entry)) (now (nums .entry)) first count) ⌝ }
 {
-    if 256 < count {
+    if RULE_NODES < count {
         return false;
     }
-    if 1024 - count < first {
+    if BOOK_NODES - count < first {
         return false;
     }
     let end = first + count;
@@ -59,7 +66,7 @@ pub fn is_rule(ops: &[u8], nums: &[u64], first: usize, count: usize) -> bool
     if nums.len() < end {
         return false;
     }
-    let Walk::Upto(e) = tree_at(ops, nums, first, end, 64) else {
+    let Walk::Upto(e) = tree_at(ops, nums, first, end, DEEPEST) else {
         return false;
     };
     if e == end {
@@ -72,10 +79,10 @@ pub fn is_rule(ops: &[u8], nums: &[u64], first: usize, count: usize) -> bool
 pub fn is_roomy(ops: &[u8], nums: &[u64]) -> bool
     ensures { λ r. ⌜ r ≡ roomy (now (ops .entry)) (now (nums .entry)) ⌝ }
 {
-    if ops.len() < 1024 {
+    if ops.len() < BOOK_NODES {
         return false;
     }
-    if nums.len() < 1024 {
+    if nums.len() < BOOK_NODES {
         return false;
     }
     true

@@ -6,7 +6,7 @@ use Rattle.stepping.specs.declared.fresh.Outcome.{Outcome}
 use Rattle.stepping.specs.declared.fresh.Outcome.the-variants.{Made, Refused}
 use Rattle.node_step.specs.Memory.{Memory}
 use Rattle.lent.specs.Lent as Lent
-use Rattle.lent.specs.Lent.{Tables}
+use Rattle.lent.specs.Lent.{LentTables}
 use Rattle.stepping.specs.Call.{verdictOf, stepCall}
 use Rattle.stepping.specs.Fresh.{outcomeOf, Making, making}
 use Rattle.in_place.specs.declared.Monitor.{Monitor}
@@ -18,7 +18,7 @@ abbrev pub memoryOf : Monitor → Memory
 memoryOf m = record { held = m .held; remaining = m .remaining; failed = m .failed; culprits = m .culprits }
 
 -- the tables of a call, from its parameters
-abbrev pub overLists : List ℕ → List ℕ → ℕ → ℕ → List ℕ → ℕ → ℕ → Tables
+abbrev pub overLists : List ℕ → List ℕ → ℕ → ℕ → List ℕ → ℕ → ℕ → LentTables
 overLists ops nums first count nodes nfirst ncount = record {
   ops = ops;
   nums = nums;
@@ -30,11 +30,11 @@ overLists ops nums first count nodes nfirst ncount = record {
 }
 
 -- the monitor that a struct holds
-abbrev pub monitorOf : Monitor → Lent.Monitor
+abbrev pub monitorOf : Monitor → Lent.LentMonitor
 monitorOf m = record { size = m .size; forms = m .forms; bounds = m .bounds; memory = memoryOf m }
 
 -- the struct that holds a monitor
-abbrev pub structOf : Lent.Monitor → Monitor
+abbrev pub structOf : Lent.LentMonitor → Monitor
 structOf k = record {
   size = k .size;
   forms = k .forms;
@@ -46,7 +46,7 @@ structOf k = record {
 }
 
 -- a step call: the count of nodes, the forms and the bounds stay, and a refusal leaves the states as they were (`stepCall`)
-unfoldable pub stepIn : Tables → Monitor → ℕ → ℕ → Advanced
+unfoldable pub stepIn : LentTables → Monitor → ℕ → ℕ → Advanced
 stepIn t m s w = record {
   monitor = structOf (record { size = m .size; forms = m .forms; bounds = m .bounds; memory = stepCall t (monitorOf m) s w .memory });
   verdict = verdictOf (stepCall t (monitorOf m) s w .answer);
@@ -65,5 +65,5 @@ startedOf c size = record {
 }
 
 -- making a monitor: its nodes' forms and bounds and cleared states, or the refusal and the struct as it was (`making`)
-unfoldable pub freshIn : Tables → Monitor → Started
+unfoldable pub freshIn : LentTables → Monitor → Started
 freshIn t m = startedOf (making t (m .forms) (m .bounds) (memoryOf m)) (m .size)

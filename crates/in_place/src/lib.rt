@@ -2,13 +2,15 @@
 pub mod fresh;
 pub mod step;
 
+use terms::limit::RULE_NODES;
+
 // The count of its nodes, and for each node its form, its bound and its state (crates/stepping, `NodeState`).
 pub struct Monitor {
     pub size: usize,
-    pub forms: [u64; 256],
-    pub bounds: [u64; 256],
-    pub held: [bool; 256],
-    pub remaining: [u64; 256],
-    pub failed: [bool; 256],
-    pub culprits: [i64; 256],
+    pub forms: [u64; RULE_NODES],
+    pub bounds: [u64; RULE_NODES],
+    pub held: [bool; RULE_NODES],
+    pub remaining: [u64; RULE_NODES],
+    pub failed: [bool; RULE_NODES],
+    pub culprits: [i64; RULE_NODES],
 }

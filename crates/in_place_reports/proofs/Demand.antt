@@ -12,14 +12,14 @@ use Rattle.formula.proofs.Trees.{some-inj}
 use Rattle.monitor.specs.Mon.{Mon}
 use Rattle.monitor.specs.Compile.{ruleNode}
 use Rattle.compiler.specs.Compiled.{compileCall}
-use Rattle.compiled.proofs.ReadsBack.{compiled-reads}
+use Rattle.compiler_laws.proofs.ReadsBack.{compiled-reads}
 use Rattle.meaning.specs.Calls.{Call, accepted, stepAll, steps, Below}
 use Rattle.meaning.specs.Calls as calls
 use Rattle.meaning.specs.Demand.{Machine, Fair, Lent, Demand}
 use Rattle.meaning.specs.State.{State, fresh}
 use Rattle.meaning.proofs.Machines.{Lawful, meets}
 use Rattle.lent.specs.Lent as lent
-use Rattle.lent.specs.Lent.{Tables, HoldsRule, Ready, ruleMon}
+use Rattle.lent.specs.Lent.{LentTables, HoldsRule, Ready, ruleMon}
 use Rattle.stepping.specs.Walk.{readMon}
 use Rattle.stepping.specs.Call.{resultOf, verdictOf, stepCall}
 use Rattle.stepping.specs.Fresh as Fresh
@@ -68,12 +68,12 @@ lawful-on-tables m = record {
 }
 
 -- ---- a struct whose fresh monitor was made
-pub record Started (t : Tables) (k : Monitor) (m : Mon) : Type 0 where
+pub record Started (t : LentTables) (k : Monitor) (m : Mon) : Type 0 where
   pub holds : HoldsRule t m
   pub reads : ReadsAs m (freshIn t k .monitor) (fresh m)
   pub ready : Ready (monitorOf (freshIn t k .monitor)) m
 
-module _ (t : Tables) (k : Monitor) (n : ℕ) (m : Mon) (own : ruleMon t ≡ some m) (made : Fresh.resultOf (freshIn t k .outcome) ≡ given n) where
+module _ (t : LentTables) (k : Monitor) (n : ℕ) (m : Mon) (own : ruleMon t ≡ some m) (made : Fresh.resultOf (freshIn t k .outcome) ≡ given n) where
   given-there : making t (k .forms) (k .bounds) (memoryOf k) .answer ≡ given n
   unfolding freshIn
   given-there = sym (outcome-told (making t (k .forms) (k .bounds) (memoryOf k) .answer)) ∙ made
@@ -85,12 +85,12 @@ module _ (t : Tables) (k : Monitor) (n : ℕ) (m : Mon) (own : ruleMon t ≡ som
   pub started : Started t k m
   started =
       let x = made-of t (k .forms) (k .bounds) (memoryOf k) n m own given-there in
-      let k₀ : lent.Monitor = record { size = 0; forms = k .forms; bounds = k .bounds; memory = memoryOf k } in
+      let k₀ : lent.LentMonitor = record { size = 0; forms = k .forms; bounds = k .bounds; memory = memoryOf k } in
       let e : monitorOf (freshIn t k .monitor) ≡ freshOf t k₀ = same-monitor ∙ x .is in
       record {
         holds = x .holds;
-        reads = ap (λ (y : lent.Monitor). readMon m (y .memory) 0) e ∙ fresh-state t k₀ m (x .holds) (x .room);
-        ready = subst (λ (y : lent.Monitor). Ready y m) (sym e) (fresh-ready t k₀ m (x .holds) (x .room));
+        reads = ap (λ (y : lent.LentMonitor). readMon m (y .memory) 0) e ∙ fresh-state t k₀ m (x .holds) (x .room);
+        ready = subst (λ (y : lent.LentMonitor). Ready y m) (sym e) (fresh-ready t k₀ m (x .holds) (x .room));
       }
 
 -- ---- the theorems
@@ -104,7 +104,7 @@ own-table ops nums first count f is-f out n compiles =
 pub demand-in-place : DemandInPlace
 unfolding Below
 demand-in-place ops nums first count f is-f out n compiles k made =
-    let t : Tables = compiledTables ops nums first count out n in
+    let t : LentTables = compiledTables ops nums first count out n in
     let x = started t k n (ruleNode f first) (own-table ops nums first count f is-f out n compiles) made in
     meets inPlace f first (ReadsAs (ruleNode f first)) (λ y. Ready (monitorOf y) (ruleNode f first)) (lawful-in-place (ruleNode f first)) (freshIn t k .monitor) (x .reads) (x .ready)
     (λ s w h. (record { tables = t; at = s; truths = w }, record { own = x .holds .rule; roomy = x .holds .room; below = (h, tt) }, refl))

@@ -16,7 +16,7 @@ use Rattle.compiler.specs.Compiled.{compileCall}
 use Rattle.meaning.specs.Calls.{accepted}
 use Rattle.meaning.specs.Demand.{Machine, Demand}
 use Rattle.meaning.specs.State.{State}
-use Rattle.lent.specs.Lent.{Tables, tableRoom, ruleMon}
+use Rattle.lent.specs.Lent.{LentTables, tableRoom, ruleMon}
 use Rattle.stepping.specs.Walk.{readMon}
 use Rattle.stepping.specs.Call.{resultOf}
 use Rattle.stepping.specs.Fresh as fresh
@@ -34,7 +34,7 @@ ReadsAs m k st = readMon m (memoryOf k) 0 ≡ st
 -- ---- over plain tables
 -- the tables that a call is lent, its step and its truths
 pub record StepCall : Type 0 where
-  pub tables : Tables
+  pub tables : LentTables
   pub at : ℕ
   pub truths : ℕ
 

@@ -11,6 +11,7 @@ use borrow.Author.Tests.{le-leb, lt-leb, leb-true, eq-eqb, ne-eqb}
 use lib.Dec.{leb, eqb}
 use lib.ListN.{length, getD}
 use lib.Seq.{sets}
+use Rattle.terms.specs.Choice.{pick}
 use Rattle.result.specs.Result.{given, refused}
 use Rattle.formula.specs.Formula.{Formula}
 use Rattle.formula.specs.Table.{isSome, ruleOf, roomy}
@@ -25,7 +26,7 @@ use Rattle.compiler.specs.Compiled.{resultOf, Call, firstOr, compileFormula, ru
 use Rattle.plan.specs.Book.{firstBit, listed, kept, filledIn, isZero, partBits, Rowed, Arranged}
 use Rattle.plan.proofs.Rows.{table-bits}
 use Rattle.plan.proofs.Books.{pick-same, same-first}
-use Rattle.layout.specs.Entry.{roomyNodes, roomyRules, ruleAt, monAt, bitsIn, agrees, fine, fineOf, allBelow, Outcome, outcome, pickOutcome, sound, laidOut, layoutOf, InRules, InRulesUpto}
+use Rattle.layout.specs.Entry.{roomyNodes, roomyRules, ruleAt, monAt, bitsIn, agrees, fine, fineOf, allBelow, Outcome, outcome, sound, laidOut, layoutOf, InRules, InRulesUpto}
 use Rattle.layout.proofs.Rules.{some-mon, part-compiled}
 
 -- ---- room for 64 rules
@@ -209,8 +210,8 @@ module _ (n : ℕ) (property compiled : ℕ → Bool) (f g : ℕ → ℕ) (h : (
 module _ (ops nums firsts counts nodes nfirsts ncounts kinds refusals : List ℕ) (n : ℕ) (starts bits′ : List ℕ) where
   answer : (w v t u s : Bool) → Outcome
   answer w v t u s =
-      pickOutcome (w && (v && (t && u)))
-      (pickOutcome s (laidOut kinds refusals (monAt ops nums firsts counts nodes nfirsts ncounts) n starts bits′) (outcome (refused 2) starts bits′))
+      pick (w && (v && (t && u)))
+      (pick s (laidOut kinds refusals (monAt ops nums firsts counts nodes nfirsts ncounts) n starts bits′) (outcome (refused 2) starts bits′))
       (outcome (refused 1) starts bits′)
 
   layout-is : {w v t u s : Bool} → roomyNodes ops nums nodes ≡ w → roomyRules kinds refusals firsts counts nfirsts ncounts ≡ v → leb 64 (length starts) ≡ t → leb 64 (length bits′) ≡ u → sound (ruleAt ops nums firsts counts) refusals (monAt ops nums firsts counts nodes nfirsts ncounts) n ≡ s → layoutOf ops nums firsts counts nodes nfirsts ncounts kinds refusals n starts bits′ ≡ answer w v t u s

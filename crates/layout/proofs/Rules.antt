@@ -13,7 +13,7 @@ use Rattle.formula.proofs.Cases.{true-false}
 use Rattle.monitor.specs.Mon.{Mon}
 use Rattle.monitor.specs.Table.{compiledOf}
 use Rattle.plan.specs.Layout.{pieces, slotIn}
-use Rattle.plan.specs.Rows.{rowPieces, Summed, Part}
+use Rattle.plan.specs.Rows.{rowPieces, Summed, RowsPart}
 use Rattle.plan.specs.declared.layout.Slot.{Slot}
 use Rattle.plan.specs.declared.layout.Piece.{Piece}
 use Rattle.plan.proofs.Rows.{rows-pieces, over-formula, table-bits, table-part}
@@ -83,7 +83,7 @@ module _ (ops nums : List ℕ) (first count : ℕ) (nodes : List ℕ) (nfirst nc
             let (m, p) = some-mon q _ z y in
             ap given u ∙ sym (slot-by j m p ∙ ap (λ (b : Bool). orElse b 2 (given (slotIn (rowPieces nodes nfirst ncount) j))) (lt-ltb _ _ n))
 
-  pub part-compiled : (q : Bool) → q ≡ isSome (compiledOf ops nums first count nodes nfirst ncount) → q ≡ true → Part nodes nfirst ncount
+  pub part-compiled : (q : Bool) → q ≡ isSome (compiledOf ops nums first count nodes nfirst ncount) → q ≡ true → RowsPart nodes nfirst ncount
   part-compiled q z y =
       let (m, p) = some-mon q _ z y in
       table-part ops nums first count nodes nfirst ncount m p

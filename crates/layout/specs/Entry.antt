@@ -9,6 +9,8 @@ use mathlib.Core.Option.{Option, none, some}
 use Prim.Native.Nat.{ℕ, zero, suc, _≤_, _<_}
 use lib.Dec.{leb, ltb, eqb}
 use lib.ListN.{length, getD}
+use Rattle.terms.specs.Limits.{bookNodes, bookRules, nodeCells}
+use Rattle.terms.specs.Choice.{pick}
 use Rattle.result.specs.Result.{Result, given, refused, orElse}
 use Rattle.formula.specs.Formula.{Formula}
 use Rattle.formula.specs.Table.{roomy, isSome, ruleOf}
@@ -22,12 +24,12 @@ use Rattle.layout.specs.declared.rule.RuleBits.{RuleBits}
 use Rattle.layout.specs.declared.rule.RuleBits.the-variants.{Bits, Refused as BitsRefused}
 use Rattle.layout.specs.declared.rule.NodeSlot.{NodeSlot}
 use Rattle.layout.specs.declared.rule.NodeSlot.the-variants.{At, Refused as SlotRefused}
-use Rattle.layout.specs.declared.book.Laid.{Laid}
-use Rattle.layout.specs.declared.book.Laid.the-variants.{Done, Refused as LaidRefused}
+use Rattle.layout.specs.declared.book.BookLayout.{BookLayout}
+use Rattle.layout.specs.declared.book.BookLayout.the-variants.{Done, Refused as LaidRefused}
 
 -- refusal 1: 1,024 formula nodes, 256 monitor nodes of seven numbers
 abbrev pub roomyNodes : List ℕ → List ℕ → List ℕ → Bool
-roomyNodes ops nums nodes = leb 1792 (length nodes) && roomy ops nums
+roomyNodes ops nums nodes = leb nodeCells (length nodes) && roomy ops nums
 
 -- ---- one rule
 abbrev pub bitsResult : RuleBits → Result ℕ
@@ -59,8 +61,8 @@ nodeSlotOf ops nums first count nodes nfirst ncount j =
 -- refusal 1: 64 rules in each list
 abbrev pub roomyRules : List ℕ → List ℕ → List ℕ → List ℕ → List ℕ → List ℕ → Bool
 roomyRules kinds refusals firsts counts nfirsts ncounts =
-    leb 64 (length kinds) && (leb 64 (length refusals) && (leb 64 (length firsts)
-    && (leb 64 (length counts) && (leb 64 (length nfirsts) && leb 64 (length ncounts)))))
+    leb bookRules (length kinds) && (leb bookRules (length refusals) && (leb bookRules (length firsts)
+    && (leb bookRules (length counts) && (leb bookRules (length nfirsts) && leb bookRules (length ncounts)))))
 
 -- the formula of rule r, its compiled rule, and its bits
 abbrev pub ruleAt : List ℕ → List ℕ → List ℕ → List ℕ → ℕ → Option Formula
@@ -88,23 +90,19 @@ unfoldable pub allBelow : (ℕ → Bool) → ℕ → Bool
 allBelow ok zero = true
 allBelow ok (suc r) = allBelow ok r && ok r
 
-abbrev pub laidResult : Laid → Result Unit
+abbrev pub laidResult : BookLayout → Result Unit
 laidResult Done = given tt
 laidResult (LaidRefused n) = refused n
 
 pub data Outcome : Type 0 where
   outcome : Result Unit → List ℕ → List ℕ → Outcome
 
-abbrev pub pickOutcome : Bool → Outcome → Outcome → Outcome
-pickOutcome true a b = a
-pickOutcome false a b = b
-
 -- the rules are compiled as their flags say
 abbrev pub fineOf : (ℕ → Option Formula) → List ℕ → (ℕ → Option Mon) → ℕ → Bool
 fineOf rule refusals mon r = fine (rule r) (getD refusals r 0) (mon r)
 
 abbrev pub sound : (ℕ → Option Formula) → List ℕ → (ℕ → Option Mon) → ℕ → Bool
-sound rule refusals mon n = leb n 64 && allBelow (fineOf rule refusals mon) n
+sound rule refusals mon n = leb n bookRules && allBelow (fineOf rule refusals mon) n
 
 abbrev pub laidOut : List ℕ → List ℕ → (ℕ → Option Mon) → ℕ → List ℕ → List ℕ → Outcome
 laidOut kinds refusals mon n starts bits =
@@ -115,18 +113,18 @@ laidOut kinds refusals mon n starts bits =
 unfoldable pub layoutOf : List ℕ → List ℕ → List ℕ → List ℕ → List ℕ → List ℕ → List ℕ → List ℕ → List ℕ → ℕ → List ℕ → List ℕ
     → Outcome
 layoutOf ops nums firsts counts nodes nfirsts ncounts kinds refusals n starts bits =
-    pickOutcome
+    pick
     (roomyNodes ops nums nodes
-    && (roomyRules kinds refusals firsts counts nfirsts ncounts && (leb 64 (length starts) && leb 64 (length bits))))
-    (pickOutcome (sound (ruleAt ops nums firsts counts) refusals (monAt ops nums firsts counts nodes nfirsts ncounts) n)
+    && (roomyRules kinds refusals firsts counts nfirsts ncounts && (leb bookRules (length starts) && leb bookRules (length bits))))
+    (pick (sound (ruleAt ops nums firsts counts) refusals (monAt ops nums firsts counts nodes nfirsts ncounts) n)
     (laidOut kinds refusals (monAt ops nums firsts counts nodes nfirsts ncounts) n starts bits)
     (outcome (refused 2) starts bits))
     (outcome (refused 1) starts bits)
 
 -- ---- what the inner calls ask: room in the formula table, and rule r, or all rules below n, in the lists
 pub record InRules (ops nums refusals firsts counts nfirsts ncounts : List ℕ) (r : ℕ) : Type 0 where
-  pub in-ops : 1024 ≤ length ops
-  pub in-nums : 1024 ≤ length nums
+  pub in-ops : bookNodes ≤ length ops
+  pub in-nums : bookNodes ≤ length nums
   pub in-refusals : r < length refusals
   pub in-firsts : r < length firsts
   pub in-counts : r < length counts
@@ -134,8 +132,8 @@ pub record InRules (ops nums refusals firsts counts nfirsts ncounts : List ℕ) 
   pub in-ncounts : r < length ncounts
 
 pub record InRulesUpto (ops nums refusals firsts counts nfirsts ncounts : List ℕ) (n : ℕ) : Type 0 where
-  pub in-ops : 1024 ≤ length ops
-  pub in-nums : 1024 ≤ length nums
+  pub in-ops : bookNodes ≤ length ops
+  pub in-nums : bookNodes ≤ length nums
   pub in-refusals : n ≤ length refusals
   pub in-firsts : n ≤ length firsts
   pub in-counts : n ≤ length counts

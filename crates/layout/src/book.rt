@@ -3,13 +3,14 @@ use compiler::Compiled;
 use compiler::compile_formula;
 use formula::table::is_rule;
 use monitor::table::is_compiled;
+use terms::limit::BOOK_RULES;
+use terms::limit::NODE_CELLS;
 ghost use mathlib.Core.Path.{_≡_};
 ghost use Prim.Native.Nat.{_<_, _≤_};
-ghost use lib.ListN.{length};
 ghost use Rattle.layout.specs.Entry.{roomyRules, ruleAt, monAt, fineOf, allBelow, laidResult, outcome, layoutOf, InRules, InRulesUpto};
 
 // The layout is made, or a refusal's number.
-pub enum Laid {
+pub enum BookLayout {
     Done,
     Refused(u64),
 }
@@ -26,22 +27,22 @@ fn rules_fit(
     ensures { λ r. ⌜ r ≡ roomyRules (now (kinds .entry)) (now (refusals .entry))
         (now (firsts .entry)) (now (counts .entry)) (now (nfirsts .entry)) (now (ncounts .entry)) ⌝ }
 {
-    if kinds.len() < 64 {
+    if kinds.len() < BOOK_RULES {
         return false;
     }
-    if refusals.len() < 64 {
+    if refusals.len() < BOOK_RULES {
         return false;
     }
-    if firsts.len() < 64 {
+    if firsts.len() < BOOK_RULES {
         return false;
     }
-    if counts.len() < 64 {
+    if counts.len() < BOOK_RULES {
         return false;
     }
-    if nfirsts.len() < 64 {
+    if nfirsts.len() < BOOK_RULES {
         return false;
     }
-    if ncounts.len() < 64 {
+    if ncounts.len() < BOOK_RULES {
         return false;
     }
     true
@@ -72,7 +73,7 @@ fn fine_at(
     if !is_rule(ops, nums, first, count) {
         return false;
     }
-    let mut aside = [0u64; 1792];
+    let mut aside = [0u64; NODE_CELLS];
     let answer = compile_formula(ops, nums, first, count, &mut aside);
     match answer {
         Compiled::Nodes(_) => {
@@ -143,26 +144,26 @@ pub fn layout(
     n: usize,
     starts: &mut [u64],
     bits: &mut [u64],
-) -> Laid
+) -> BookLayout
     ensures { λ r. ⌜ outcome (laidResult r) (now (starts .exit)) (now (bits .exit)) ≡ layoutOf
         (now (ops .entry)) (now (nums .entry)) (now (firsts .entry)) (now (counts .entry))
         (now (nodes .entry)) (now (nfirsts .entry)) (now (ncounts .entry))
         (now (kinds .entry)) (now (refusals .entry)) n (now (starts .entry)) (now (bits .entry)) ⌝ }
 {
     if !crate::rule::is_wide(ops, nums, nodes) {
-        return Laid::Refused(1);
+        return BookLayout::Refused(1);
     }
     if !rules_fit(kinds, refusals, firsts, counts, nfirsts, ncounts) {
-        return Laid::Refused(1);
+        return BookLayout::Refused(1);
     }
-    if starts.len() < 64 {
-        return Laid::Refused(1);
+    if starts.len() < BOOK_RULES {
+        return BookLayout::Refused(1);
     }
-    if bits.len() < 64 {
-        return Laid::Refused(1);
+    if bits.len() < BOOK_RULES {
+        return BookLayout::Refused(1);
     }
-    if 64 < n {
-        return Laid::Refused(2);
+    if BOOK_RULES < n {
+        return BookLayout::Refused(2);
     }
     if !all_fine(
         ops,
@@ -175,8 +176,8 @@ pub fn layout(
         refusals,
         n,
     ) {
-        return Laid::Refused(2);
+        return BookLayout::Refused(2);
     }
     plan::layout::arrange(kinds, refusals, nodes, nfirsts, ncounts, n, starts, bits);
-    Laid::Done
+    BookLayout::Done
 }

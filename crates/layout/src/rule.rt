@@ -1,5 +1,6 @@
 // The bits of one compiled rule and of its nodes.
 use plan::layout::Slot;
+use terms::limit::NODE_CELLS;
 ghost use mathlib.Core.Path.{_≡_};
 ghost use Rattle.layout.specs.Entry.{roomyNodes, bitsResult, ruleBitsOf, slotResult, nodeSlotOf};
 
@@ -19,7 +20,7 @@ pub enum NodeSlot {
 pub fn is_wide(ops: &[u8], nums: &[u64], nodes: &[u64]) -> bool
     ensures { λ r. ⌜ r ≡ roomyNodes (now (ops .entry)) (now (nums .entry)) (now (nodes .entry)) ⌝ }
 {
-    if nodes.len() < 1792 {
+    if nodes.len() < NODE_CELLS {
         return false;
     }
     formula::table::is_roomy(ops, nums)

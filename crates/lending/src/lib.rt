@@ -10,6 +10,7 @@ use table_calls::compile_table;
 use table_calls::split_table;
 use table_step::fresh_table;
 use table_step::step_table;
+use terms::limit::BOOK_NODES;
 ghost use mathlib.Core.Path.{_≡_};
 ghost use Rattle.compiler.specs.Compiled.{Answers, compileCall};
 ghost use Rattle.in_place.specs.InPlace.{freshIn, stepIn};
@@ -20,7 +21,7 @@ ghost use Rattle.table_step.specs.Over.{over};
 // Steps a monitor once in place, over a table of node structs.
 pub fn step_over(
     mut m: Monitor,
-    table: [FormulaNode; 1024],
+    table: [FormulaNode; BOOK_NODES],
     first: usize,
     count: usize,
     nodes: &[u64],
@@ -41,7 +42,7 @@ pub fn step_over(
 // Makes the monitor of a compiled rule in place, over a table of node structs.
 pub fn fresh_over(
     mut m: Monitor,
-    table: [FormulaNode; 1024],
+    table: [FormulaNode; BOOK_NODES],
     first: usize,
     count: usize,
     nodes: &[u64],
@@ -59,7 +60,7 @@ pub fn fresh_over(
 
 // Compiles a rule of a table of node structs.
 pub fn compile_over(
-    table: [FormulaNode; 1024],
+    table: [FormulaNode; BOOK_NODES],
     first: usize,
     count: usize,
     out: &mut [u64],
@@ -71,7 +72,7 @@ pub fn compile_over(
 
 // Splits a rule of a table of node structs.
 pub fn split_over(
-    table: [FormulaNode; 1024],
+    table: [FormulaNode; BOOK_NODES],
     first: usize,
     count: usize,
     assumption: bool,

@@ -3,13 +3,15 @@
 use node_table::FormulaNode;
 use reader::read::Answer;
 use table_read::read_table;
+use terms::limit::BOOK_NODES;
 ghost use Rattle.node_table.specs.Node.{opsOf, numsOf};
 ghost use Rattle.reader.specs.Answer.{Reads};
+ghost use Rattle.reader.specs.Tables.{columns};
 
 // The answer, and the table as reading leaves it.
 pub struct ReadOver {
     pub answer: Answer,
-    pub table: [FormulaNode; 1024],
+    pub table: [FormulaNode; BOOK_NODES],
 }
 
 // Reads a book: its rules into the rule list, its nodes into the table's front.
@@ -20,9 +22,12 @@ pub fn read_over(
     kinds: &mut [u8],
     firsts: &mut [usize],
     counts: &mut [usize],
-    mut table: [FormulaNode; 1024],
+    mut table: [FormulaNode; BOOK_NODES],
 ) -> ReadOver
-    ensures { λ r. ⌜ Reads (now (text .entry)) (record { labels = now (labels .entry); lens = now (lens .entry); kinds = now (kinds .entry); firsts = now (firsts .entry); counts = now (counts .entry); ops = opsOf table; nums = numsOf table }) (r .answer) (record { labels = now (labels .exit); lens = now (lens .exit); kinds = now (kinds .exit); firsts = now (firsts .exit); counts = now (counts .exit); ops = opsOf (r .table); nums = numsOf (r .table) }) ⌝ }
+    ensures { λ r. ⌜ Reads (now (text .entry))
+        (columns (now (labels .entry)) (now (lens .entry)) (now (kinds .entry)) (now (firsts .entry)) (now (counts .entry)) (opsOf table)
+        (numsOf table)) (r .answer) (columns (now (labels .exit)) (now (lens .exit)) (now (kinds .exit)) (now (firsts .exit)) (now (counts .exit))
+        (opsOf (r .table)) (numsOf (r .table))) ⌝ }
 {
     let answer = read_table(text, labels, lens, kinds, firsts, counts, &mut table);
     ReadOver { answer, table }

@@ -11,7 +11,7 @@ use Rattle.monitor.specs.Table.{rowOf}
 use Rattle.node_step.specs.declared.state.NodeState.{NodeState}
 use Rattle.node_step.specs.Memory.{Memory, get, Inside}
 use Rattle.lent.specs.Shape.{rowFits, shapedFrom}
-use Rattle.lent.specs.Lent.{Monitor, rowsFit, Comparable}
+use Rattle.lent.specs.Lent.{LentMonitor, rowsFit, Comparable}
 use Rattle.node_step.proofs.Entries.{inside-less}
 
 -- ---- the entries one by one
@@ -66,7 +66,7 @@ module _ (nodes : List ℕ) (nfirst : ℕ) (forms bounds : List ℕ) (mem : Memo
         shaping-no t = sym (d .same ∙ one-more ∙ ap (λ (x : Bool). x && shapedFrom nodes nfirst forms bounds mem (k + 1) (n - (k + 1))) (here ∙ t))
 
 -- ---- the whole test
-module _ (nodes : List ℕ) (nfirst n : ℕ) (k : Monitor) where
+module _ (nodes : List ℕ) (nfirst n : ℕ) (k : LentMonitor) where
   pub other-count : (k .size ≡ n → ⊥) → false ≡ rowsFit nodes nfirst n k
   other-count h = sym (ap (λ (b : Bool). b && shapedFrom nodes nfirst (k .forms) (k .bounds) (k .memory) 0 n) (ne-eqb (k .size) n h))
 

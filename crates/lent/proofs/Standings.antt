@@ -11,6 +11,7 @@ use native.Mathlib.Nat.{add-zero, zero-add}
 use lib.Dec.{eqb, leb}
 use lib.ListN.{length, getD}
 use borrow.Author.Tests.{leb-true, le-leb, lt-ltb, le-ltb}
+use Rattle.terms.specs.Choice.{pick}
 use Rattle.formula.specs.Tree.{Tree, leaf, one, two, leaf-of, two-of, unknown, size, all}
 use Rattle.formula.specs.Spells.{Spells}
 use Rattle.formula.specs.Formula.{Formula, Atom}
@@ -27,7 +28,7 @@ use Rattle.monitor.specs.declared.node.MonNode.the-variants.{RangeCheck, Delaye
 use Rattle.monitor.specs.declared.node.Row.{Row}
 use Rattle.monitor.specs.declared.node.Row.the-variants.{Node, Unknown}
 use Rattle.monitor.specs.Mon.{Signal, at, Check, range-check, delayed-check, obligation, Mon, check, And, Or, count, exprOf, nodeOf}
-use Rattle.monitor.specs.Table.{rowOf, subAt, pickFormula, keepPure, keepSignal, signalOf, Never, Join, join-and, join-or, Cell, checked, cellOf, cellBy, cells, fromTree, compiledOf}
+use Rattle.monitor.specs.Table.{rowOf, subAt, keepPure, keepSignal, signalOf, Never, Join, join-and, join-or, Cell, checked, cellOf, cellBy, cells, fromTree, compiledOf}
 use Rattle.monitor.proofs.Parts.{part-at, no-part}
 use Rattle.monitor.proofs.Holds.{held-inv}
 use Rattle.node_step.specs.Check.{Standing, Grounded, GroundedCheck}
@@ -35,7 +36,7 @@ use Rattle.node_step.specs.Memory.{Memory, get, Inside}
 use Rattle.node_step.proofs.Entries.{inside-less}
 use Rattle.lent.specs.Nodes.{NodesAt}
 use Rattle.lent.specs.Shape.{entryFits, fitsMon, rowFits, shapedFrom}
-use Rattle.lent.specs.Lent.{Tables, Monitor, tableRoom, monitorRoom, isLent, ruleMon, fits, rowsFit, HoldsRule, Ready, Comparable, Known}
+use Rattle.lent.specs.Lent.{LentTables, LentMonitor, tableRoom, monitorRoom, isLent, ruleMon, fits, rowsFit, HoldsRule, Ready, Comparable, Known}
 
 -- ---- signals
 part-ok : (ok : Atom → Bool) (f : Formula) (k : ℕ) (g : Formula) → subAt f k ≡ some g → all ok f ≡ true → all ok g ≡ true
@@ -46,8 +47,8 @@ part-ok ok (one o f) zero g e h = subst (λ (x : Formula). all ok x ≡ true) (s
 part-ok ok (one o f) (suc k) g e h = part-ok ok f k g e h
 part-ok ok (two o l r) zero g e h = subst (λ (x : Formula). all ok x ≡ true) (some-inj e) h
 part-ok ok (two o l r) (suc k) g e h = ⊎-elim
-    (λ q. part-ok ok l k g (sym (ap (λ (b : Bool). pickFormula b (subAt l k) (subAt r (k - size l))) (lt-ltb k (size l) q)) ∙ e) (both-true (all ok l) (all ok r) h .0))
-    (λ q. part-ok ok r (k - size l) g (sym (ap (λ (b : Bool). pickFormula b (subAt l k) (subAt r (k - size l))) (le-ltb k (size l) q)) ∙ e) (both-true (all ok l) (all ok r) h .1))
+    (λ q. part-ok ok l k g (sym (ap (λ (b : Bool). pick b (subAt l k) (subAt r (k - size l))) (lt-ltb k (size l) q)) ∙ e) (both-true (all ok l) (all ok r) h .0))
+    (λ q. part-ok ok r (k - size l) g (sym (ap (λ (b : Bool). pick b (subAt l k) (subAt r (k - size l))) (le-ltb k (size l) q)) ∙ e) (both-true (all ok l) (all ok r) h .1))
     (below-or k (size l))
 
 module _ (ops nums : List ℕ) (first count′ : ℕ) (f : Formula) (u : Rule ops nums first count′ f) where
@@ -266,13 +267,13 @@ room-back forms bounds mem d =
     (ap₂ _&&_ (le-leb 256 _ (i .held)) (ap₂ _&&_ (le-leb 256 _ (i .remaining)) (ap₂ _&&_ (le-leb 256 _ (i .failed)) (le-leb 256 _ (i .culprits))))))
 
 -- what is lent, in its two parts
-pub lent-parts : (t : Tables) (k : Monitor) → isLent t k ≡ true → (tableRoom (t .ops) (t .nums) (t .nodes) ≡ true) × (monitorRoom (k .forms) (k .bounds) (k .memory) ≡ true)
+pub lent-parts : (t : LentTables) (k : LentMonitor) → isLent t k ≡ true → (tableRoom (t .ops) (t .nums) (t .nodes) ≡ true) × (monitorRoom (k .forms) (k .bounds) (k .memory) ≡ true)
 lent-parts t k h = both-true (tableRoom (t .ops) (t .nums) (t .nodes)) (monitorRoom (k .forms) (k .bounds) (k .memory)) h
 
-pub rule-stood : (t : Tables) (m : Mon) → ruleMon t ≡ some m → Stood (t .ops) (t .nums) (t .nodes) (t .nfirst) (t .ncount) m
+pub rule-stood : (t : LentTables) (m : Mon) → ruleMon t ≡ some m → Stood (t .ops) (t .nums) (t .nodes) (t .nfirst) (t .ncount) m
 rule-stood t m e = stood (t .ops) (t .nums) (t .first) (t .count) (t .nodes) (t .nfirst) (t .ncount) m e
 
-module _ (t : Tables) (k : Monitor) (m : Mon) (e : ruleMon t ≡ some m) where
+module _ (t : LentTables) (k : LentMonitor) (m : Mon) (e : ruleMon t ≡ some m) where
   -- the test by the rows, of as many nodes as the table says
   pub table-fits : shapedFrom (t .nodes) (t .nfirst) (k .forms) (k .bounds) (k .memory) 0 (t .ncount) ≡ fitsMon m (k .forms) (k .bounds) (k .memory) 0
   table-fits =
@@ -290,7 +291,7 @@ module _ (t : Tables) (k : Monitor) (m : Mon) (e : ruleMon t ≡ some m) where
       let o = rule-stood t m e in
       inside-less (k .memory) (0 + count m) 256 (omega (arith, o .counted, o .few)) (monitor-room (k .forms) (k .bounds) (k .memory) h .inside)
 
-module _ (t : Tables) (k : Monitor) (d : Known t k) where
+module _ (t : LentTables) (k : LentMonitor) (d : Known t k) where
   pub known-comparable : Comparable (t .nodes) (t .nfirst) (k .forms) (k .bounds) (k .memory) (t .ncount)
   known-comparable =
       let o = rule-stood t (d .mon) (d .is) in
@@ -304,5 +305,5 @@ module _ (t : Tables) (k : Monitor) (d : Known t k) where
   pub known-holds : HoldsRule t (d .mon)
   known-holds = record { rule = d .is; room = lent-parts t k (d .lent) .0 }
 
-pub lent-both : (t : Tables) (k : Monitor) (m : Mon) → HoldsRule t m → Ready k m → isLent t k ≡ true
+pub lent-both : (t : LentTables) (k : LentMonitor) (m : Mon) → HoldsRule t m → Ready k m → isLent t k ≡ true
 lent-both t k m a b = ap₂ _&&_ (a .room) (b .room)

@@ -4,14 +4,17 @@ use monitor::node::Row;
 use monitor::node::row_at;
 use node_step::state::NodeState;
 use node_step::state::load;
+use terms::form::AND;
+use terms::form::DELAYED;
+use terms::form::OBLIGATION;
+use terms::form::OR;
+use terms::form::RANGE;
 ghost use mathlib.Core.Path.{_≡_};
-ghost use mathlib.Core.Bool.{Bool, true, false};
+ghost use mathlib.Core.Bool.{true, false};
 ghost use Prim.Native.Nat.{_+_, _*_, _≤_, _<_};
-ghost use lib.ListN.{length, getD};
-ghost use Rattle.monitor.specs.Table.{rowOf};
-ghost use Rattle.node_step.specs.Memory.{Memory, Inside, get};
+ghost use Rattle.node_step.specs.Memory.{entries};
 ghost use Rattle.lent.specs.Shape.{isMinusOne, fromMinusOne, windowKept, blamelessFits, joinedFits, owedFits, entryFits, rowFits, shapedFrom};
-ghost use Rattle.lent.specs.Lent.{Comparable, rowsFit};
+ghost use Rattle.lent.specs.Lent.{Comparable, rowsFit, monitorOf};
 
 fn is_minus_one(c: i64) -> bool
     ensures { λ r. ⌜ r ≡ isMinusOne c ⌝ }
@@ -55,7 +58,7 @@ fn is_window(b: u64, st: NodeState) -> bool
 fn fits_owed(b: u64, form: u64, bound: u64, st: NodeState) -> bool
     ensures { λ r. ⌜ r ≡ owedFits b form bound st ⌝ }
 {
-    if form == 2 {
+    if form == OBLIGATION {
         if bound == b {
             if is_culprit(st.culprit) {
                 return is_window(b, st);
@@ -89,20 +92,20 @@ fn fits_node(node: MonNode, form: u64, bound: u64, st: NodeState) -> bool
     ensures { λ r. ⌜ r ≡ entryFits node form bound st ⌝ }
 {
     match node {
-        MonNode::RangeCheck { expr: _, range: _ } => fits_blameless(form, 0, st),
+        MonNode::RangeCheck { expr: _, range: _ } => fits_blameless(form, RANGE, st),
         MonNode::DelayedCheck {
             antecedent: _,
             consequent: _,
             range: _,
-        } => fits_blameless(form, 1, st),
+        } => fits_blameless(form, DELAYED, st),
         MonNode::Obligation {
             bound: b,
             trigger: _,
             body: _,
             range: _,
         } => fits_owed(b, form, bound, st),
-        MonNode::And => fits_joined(form, 3, st),
-        MonNode::Or => fits_joined(form, 4, st),
+        MonNode::And => fits_joined(form, AND, st),
+        MonNode::Or => fits_joined(form, OR, st),
     }
 }
 
@@ -127,8 +130,9 @@ fn is_shaped(
     culprits: &[i64],
     n: usize,
 ) -> bool
-    requires { ⌜ Comparable (now nodes) nfirst (now forms) (now bounds) (record { held = now held; remaining = now remaining; failed = now failed; culprits = now culprits }) n ⌝ }
-    ensures { λ r. ⌜ r ≡ shapedFrom (now (nodes .entry)) nfirst (now (forms .entry)) (now (bounds .entry)) (record { held = now (held .entry); remaining = now (remaining .entry); failed = now (failed .entry); culprits = now (culprits .entry) }) 0 n ⌝ }
+    requires { ⌜ Comparable (now nodes) nfirst (now forms) (now bounds) (entries (now held) (now remaining) (now failed) (now culprits)) n ⌝ }
+    ensures { λ r. ⌜ r ≡ shapedFrom (now (nodes .entry)) nfirst (now (forms .entry)) (now (bounds .entry))
+        (entries (now (held .entry)) (now (remaining .entry)) (now (failed .entry)) (now (culprits .entry))) 0 n ⌝ }
 {
     let mut k = 0;
     while k < n {
@@ -156,8 +160,10 @@ pub fn is_fit(
     failed: &[bool],
     culprits: &[i64],
 ) -> bool
-    requires { ⌜ Comparable (now nodes) nfirst (now forms) (now bounds) (record { held = now held; remaining = now remaining; failed = now failed; culprits = now culprits }) n ⌝ }
-    ensures { λ r. ⌜ r ≡ rowsFit (now (nodes .entry)) nfirst n (record { size = size; forms = now (forms .entry); bounds = now (bounds .entry); memory = record { held = now (held .entry); remaining = now (remaining .entry); failed = now (failed .entry); culprits = now (culprits .entry) } }) ⌝ }
+    requires { ⌜ Comparable (now nodes) nfirst (now forms) (now bounds) (entries (now held) (now remaining) (now failed) (now culprits)) n ⌝ }
+    ensures { λ r. ⌜ r ≡ rowsFit (now (nodes .entry)) nfirst n
+        (monitorOf size (now (forms .entry)) (now (bounds .entry))
+        (entries (now (held .entry)) (now (remaining .entry)) (now (failed .entry)) (now (culprits .entry)))) ⌝ }
 {
     if size == n {
         return is_shaped(

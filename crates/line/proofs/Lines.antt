@@ -10,7 +10,8 @@ use types.Run.{OneOf, miss}
 use denote.Enum.Declared.{tagOf}
 use lib.Dec.{eqb, leb, ltb}
 use lib.ListN.{length, getD, take, drop, length-take, length-drop}
-use Rattle.number.specs.Number.{pick, decimalOf, hexOf}
+use Rattle.terms.specs.Choice.{pick}
+use Rattle.number.specs.Number.{decimalOf, hexOf}
 use Rattle.number.specs.declared.Number.{Number}
 use Rattle.number.specs.declared.Number.the-variants.{Value, Wrong}
 use Rattle.line.specs.Text.{parts, fields, eqbs, firstAt, Found}

@@ -9,7 +9,6 @@ use borrow.Author.Tests.{eq-eqb, ne-eqb, le-leb, lt-leb}
 use lib.Dec.{eqb, leb}
 use lib.ListN.{length, getD, take, drop, drop-of-length-le, length-drop}
 use lib.Seq.{drop-cons, take-all}
-use Rattle.number.specs.Number.{pick}
 use Rattle.line.specs.Text.{firstAt, eqbs, Found}
 use Rattle.line.specs.Line.{printable, isLabel}
 

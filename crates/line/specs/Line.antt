@@ -2,10 +2,12 @@
 --     parse      the line's word with the right number of fields, each right or wrong
 use mathlib.Core.Bool.{Bool, true, false, _&&_}
 use mathlib.Core.List.{List, [], _∷_}
-use Prim.Native.Nat.{ℕ, _^_}
+use Prim.Native.Nat.{ℕ, zero, suc, _^_}
 use lib.Dec.{leb, ltb, eqb}
 use lib.ListN.{length, getD}
-use Rattle.number.specs.Number.{pick, decimalOf, hexOf}
+use Rattle.terms.specs.Limits.{signals}
+use Rattle.terms.specs.Choice.{pick}
+use Rattle.number.specs.Number.{decimalOf, hexOf}
 use Rattle.number.specs.declared.Number.{Number}
 use Rattle.number.specs.declared.Number.the-variants.{Value, Wrong}
 use Rattle.line.specs.Text.{fields, eqbs}
@@ -34,6 +36,11 @@ isLabel l = leb 1 (length l) && (leb (length l) 32 && printable l)
 unfoldable pub kindOf : List ℕ → ℕ
 kindOf f = pick (eqbs f (80 ∷ [])) 0 (pick (eqbs f (65 ∷ [])) 1 2)
 
+-- a kind's text
+abbrev pub kindByte : ℕ → ℕ
+kindByte zero = 80
+kindByte (suc k) = 65
+
 -- the kind of a rule's line, 2 where the label or the kind is wrong
 unfoldable pub ruleKind : List ℕ → List ℕ → ℕ
 ruleKind label k = pick (isLabel label) (kindOf k) 2
@@ -44,7 +51,7 @@ ruleLine label k = pick (eqb (ruleKind label k) 2) wrong-rule (rule label (ruleK
 -- an atom's signal is at most 63
 unfoldable pub atomLine : ℕ → Number → Line
 atomLine op Wrong = wrong-node
-atomLine op (Value n) = pick (ltb n 64) (node op n) wrong-node
+atomLine op (Value n) = pick (ltb n signals) (node op n) wrong-node
 
 unfoldable pub boundLine : ℕ → Number → Line
 boundLine op Wrong = wrong-node

@@ -5,7 +5,9 @@ use mathlib.Core.Path.{_≡_}
 use Prim.Native.Nat.{ℕ, _+_, _^_, _≤_}
 use lib.Dec.{leb, ltb, eqb}
 use lib.ListN.{length, take, drop}
-use Rattle.number.specs.Number.{pick, decimalOf, hexOf}
+use Rattle.terms.specs.Limits.{signals}
+use Rattle.terms.specs.Choice.{pick}
+use Rattle.number.specs.Number.{decimalOf, hexOf}
 use Rattle.number.specs.declared.Number.{Number}
 use Rattle.number.specs.declared.Number.the-variants.{Value, Wrong}
 use Rattle.line.specs.Line.{bad, rule, wrong-rule, node, wrong-node, step, wrong-step, ruleKind}
@@ -50,7 +52,7 @@ aloneOf word.Unknown = Bad
 
 abbrev pub atomBy : ℕ → Number → Line
 atomBy op Wrong = WrongNode
-atomBy op (Value n) = pick (ltb n 64) (Node op n) WrongNode
+atomBy op (Value n) = pick (ltb n signals) (Node op n) WrongNode
 
 unfoldable pub atomOf : ℕ → List ℕ → Line
 atomOf op f = atomBy op (decimalOf f)

@@ -3,7 +3,7 @@
 --     wordOf          the word that bytes spell, unknown where they spell none
 use mathlib.Core.List.{List, [], _∷_}
 use Prim.Native.Nat.{ℕ}
-use Rattle.number.specs.Number.{pick}
+use Rattle.terms.specs.Choice.{pick}
 use Rattle.line.specs.Text.{eqbs}
 use Rattle.line.specs.declared.word.Word.{Word}
 use Rattle.line.specs.declared.word.Word.the-variants.{Atom, Plain, Bounded, Rule, Step, Unknown}

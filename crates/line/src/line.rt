@@ -8,6 +8,11 @@ use crate::word::look_up;
 use number::Number;
 use number::decimal;
 use number::hex;
+use terms::kind::ASSUMPTION;
+use terms::kind::KINDS;
+use terms::kind::PROPERTY;
+use terms::limit::SIGNALS;
+use terms::limit::STEPS;
 ghost use mathlib.Core.Path.{_≡_};
 ghost use Rattle.line.specs.Line.{isLabel, kindOf, ruleKind};
 ghost use Rattle.line.specs.Means.{LineIs, aloneOf, atomOf, boundOf, pairOf, stepOf, tripleOf};
@@ -52,12 +57,12 @@ fn kind(s: &[u8]) -> u8
     ensures { λ r. ⌜ r ≡ kindOf (now (s .entry)) ⌝ }
 {
     if same(s, b"P") {
-        return 0;
+        return PROPERTY;
     }
     if same(s, b"A") {
-        return 1;
+        return ASSUMPTION;
     }
-    2
+    KINDS
 }
 
 // The kind of a rule's head, 2 where the label or the kind is wrong.
@@ -67,7 +72,7 @@ fn rule_kind(label: &[u8], k: &[u8]) -> u8
     if is_label(label) {
         return kind(k);
     }
-    2
+    KINDS
 }
 
 // A line of one field.
@@ -88,7 +93,7 @@ fn atom(op: u8, f: &[u8]) -> Line
     let Number::Value(v) = n else {
         return Line::WrongNode;
     };
-    if v < 64 {
+    if v < SIGNALS {
         return Line::Node { op, num: v };
     }
     Line::WrongNode
@@ -124,7 +129,7 @@ fn step(s: &[u8], t: &[u8]) -> Line
     let Number::Value(v) = n else {
         return Line::WrongStep;
     };
-    if 9223372036854775808 <= v {
+    if STEPS <= v {
         return Line::WrongStep;
     }
     let m = hex(t);
@@ -141,7 +146,7 @@ fn triple(w: Word, f: &[u8], g: &[u8], start: usize) -> Line
     match w {
         Word::Rule => {
             let k = rule_kind(f, g);
-            if k == 2 {
+            if k == KINDS {
                 return Line::WrongRule;
             }
             Line::Rule {

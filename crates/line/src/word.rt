@@ -1,5 +1,18 @@
 // The words that a line can begin with.
 use crate::text::same;
+use terms::op::ALWAYS;
+use terms::op::ALWAYS_FOR;
+use terms::op::AND;
+use terms::op::EVENTUALLY;
+use terms::op::IMPLIES;
+use terms::op::IN;
+use terms::op::NEXT;
+use terms::op::NOT;
+use terms::op::OR;
+use terms::op::OUT;
+use terms::op::UNTIL;
+use terms::op::VAR;
+use terms::op::WITHIN;
 ghost use mathlib.Core.Path.{_≡_};
 ghost use Rattle.line.specs.Word.{wordOf, lookup, fromUnary, fromBounded, fromBinary, fromLines};
 
@@ -28,13 +41,13 @@ fn word_of(f: &[u8]) -> Word
     ensures { λ r. ⌜ r ≡ wordOf (now (f .entry)) ⌝ }
 {
     if same(f, b"var") {
-        return Word::Atom(0);
+        return Word::Atom(VAR);
     }
     if same(f, b"in") {
-        return Word::Atom(1);
+        return Word::Atom(IN);
     }
     if same(f, b"out") {
-        return Word::Atom(2);
+        return Word::Atom(OUT);
     }
     unary(f)
 }
@@ -44,16 +57,16 @@ fn unary(f: &[u8]) -> Word
     ensures { λ r. ⌜ r ≡ lookup fromUnary (now (f .entry)) ⌝ }
 {
     if same(f, b"not") {
-        return Word::Plain(3);
+        return Word::Plain(NOT);
     }
     if same(f, b"next") {
-        return Word::Plain(4);
+        return Word::Plain(NEXT);
     }
     if same(f, b"always") {
-        return Word::Plain(5);
+        return Word::Plain(ALWAYS);
     }
     if same(f, b"eventually") {
-        return Word::Plain(6);
+        return Word::Plain(EVENTUALLY);
     }
     bounded(f)
 }
@@ -63,10 +76,10 @@ fn bounded(f: &[u8]) -> Word
     ensures { λ r. ⌜ r ≡ lookup fromBounded (now (f .entry)) ⌝ }
 {
     if same(f, b"always-for") {
-        return Word::Bounded(7);
+        return Word::Bounded(ALWAYS_FOR);
     }
     if same(f, b"within") {
-        return Word::Bounded(8);
+        return Word::Bounded(WITHIN);
     }
     binary(f)
 }
@@ -76,16 +89,16 @@ fn binary(f: &[u8]) -> Word
     ensures { λ r. ⌜ r ≡ lookup fromBinary (now (f .entry)) ⌝ }
 {
     if same(f, b"and") {
-        return Word::Plain(9);
+        return Word::Plain(AND);
     }
     if same(f, b"or") {
-        return Word::Plain(10);
+        return Word::Plain(OR);
     }
     if same(f, b"implies") {
-        return Word::Plain(11);
+        return Word::Plain(IMPLIES);
     }
     if same(f, b"until") {
-        return Word::Plain(12);
+        return Word::Plain(UNTIL);
     }
     other(f)
 }

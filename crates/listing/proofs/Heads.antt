@@ -9,15 +9,15 @@ use lib.ListN.{length, getD, take, drop}
 use lib.ListN.{length-drop}
 use Rattle.text.specs.Tape.{Tape, Wrote}
 use Rattle.text.proofs.Tapes.{as-text, nothing, then}
-use Rattle.lines.specs.declared.rule.Compiling.{Compiling}
-use Rattle.rules.specs.Rules.{Rule, bitsOf, firstBitOf, likeOf, firstBelow, compilingOf}
-use Rattle.rules.specs.Tabled.{Held, Tabled, Placed}
-use Rattle.rules.specs.Made.{Fillable, Filled}
-use Rattle.rules.specs.Answers.{Placeable, Places, Tellable, Told}
+use Rattle.listing_line.specs.declared.rule.Compiling.{Compiling}
+use Rattle.listing_rules.specs.Rules.{Rule, bitsOf, firstBitOf, likeOf, firstBelow, compilingOf}
+use Rattle.listing_rules.specs.Tabled.{Held, Tabled, Placed}
+use Rattle.listing_rules.specs.Made.{Fillable, FilledRules}
+use Rattle.listing_rules.specs.Answers.{Placeable, Places, Tellable, ToldRule}
 use Rattle.listing_text.specs.Listing.{upto, ruleText, rulesText}
-use Rattle.rule_lines.specs.Section as section
-use Rattle.listing.specs.Ready.{Lent, Labelled, Ready, Readied, RuleReady, RuleListed, RulesListed}
-use Rattle.listing.specs.Whole.{Read, Holds, Known, Roomed, HeadListed}
+use Rattle.listing_section.specs.Section as section
+use Rattle.listing.specs.Ready.{Lent, Labelled, BookReady, Readied, RuleReady, RuleListed, RulesListed}
+use Rattle.listing.specs.Whole.{Read, HoldsRules, KnownBook, Roomed, HeadListed}
 
 module _ (ops nums labels lens kinds firsts counts nodes nfirsts ncounts refusals starts bits : List ℕ) where
   abbrev lent : Lent
@@ -29,7 +29,7 @@ module _ (ops nums labels lens kinds firsts counts nodes nfirsts ncounts refusal
         let k : Labelled labels lens (h .readied .rules) n = h .readied .is .labelled in
         omega (arith, ap length e, length-drop (32 * r) labels, k .inside r (h .low), k .in-labels)
 
-    listable : (rest label : List ℕ) (R : ℕ → Rule) → Ready lent R n → r < n → c ≡ compilingOf R n r → rest ≡ drop (32 * r) labels → label ≡ take (getD lens r 0) rest → section.Listable ops nums nodes label (getD kinds r 0) (getD firsts r 0) (getD counts r 0) (getD nfirsts r 0) (getD ncounts r 0) c (R r)
+    listable : (rest label : List ℕ) (R : ℕ → Rule) → BookReady lent R n → r < n → c ≡ compilingOf R n r → rest ≡ drop (32 * r) labels → label ≡ take (getD lens r 0) rest → section.Listable ops nums nodes label (getD kinds r 0) (getD firsts r 0) (getD counts r 0) (getD nfirsts r 0) (getD ncounts r 0) c (R r)
     unfolding compilingOf
     listable rest label R k h g e p = record {
       in-ops = omega (arith, k .held .ops-long);
@@ -51,13 +51,13 @@ module _ (ops nums labels lens kinds firsts counts nodes nfirsts ncounts refusal
     pub section-listed : (rest label : List ℕ) (a b : Tape) → RuleReady lent n r c → rest ≡ drop (32 * r) labels → label ≡ take (getD lens r 0) rest → section.RulePut ops nums nodes label r (getD kinds r 0) (getD firsts r 0) (getD counts r 0) (getD nfirsts r 0) (getD ncounts r 0) c a b → RuleListed lent n r c a b
     unfolding ruleText
     section-listed rest label a b h e p w = record {
-      is = λ R k g. subst (λ (x : Compiling). Wrote a (Rattle.lines.specs.Rule.ruleLine r (R r .label) (R r .kind) x ++ (Rattle.listing_text.specs.Listing.nodesText (R r) ++ (Rattle.listing_text.specs.Listing.liveText (R r) ++ Rattle.listing_text.specs.Listing.owesText (R r)))) b) g (w .is (R r) (listable rest label R k (h .low) g e p));
+      is = λ R k g. subst (λ (x : Compiling). Wrote a (Rattle.listing_line.specs.Rule.ruleLine r (R r .label) (R r .kind) x ++ (Rattle.listing_text.specs.Listing.nodesText (R r) ++ (Rattle.listing_text.specs.Listing.liveText (R r) ++ Rattle.listing_text.specs.Listing.owesText (R r)))) b) g (w .is (R r) (listable rest label R k (h .low) g e p));
     }
 
   -- ---- the loop: the lines of r rules are written
   pub record Headed (n r : ℕ) (a b : Tape) : Type 0 where
     pub high : r ≤ n
-    pub wrote : (R : ℕ → Rule) → Ready lent R n → Wrote a (upto (ruleText R n) r) b
+    pub wrote : (R : ℕ → Rule) → BookReady lent R n → Wrote a (upto (ruleText R n) r) b
 
   module _ (n : ℕ) where
     pub headed-first : (a : Tape) → Headed n 0 a a
@@ -67,10 +67,10 @@ module _ (ops nums labels lens kinds firsts counts nodes nfirsts ncounts refusal
     pub told-ready : (r : ℕ) → Readied lent n → r < n → Tellable ops nums firsts counts nodes nfirsts ncounts refusals starts bits r
     told-ready r k h = record { rules = k .rules; many = n; tabled = k .is .tabled; placed = k .is .placed; inside = h }
 
-    pub rule-asked : (r : ℕ) (c : Compiling) → Readied lent n → r < n → Told ops nums firsts counts nodes nfirsts ncounts refusals starts bits r c → RuleReady lent n r c
+    pub rule-asked : (r : ℕ) (c : Compiling) → Readied lent n → r < n → ToldRule ops nums firsts counts nodes nfirsts ncounts refusals starts bits r c → RuleReady lent n r c
     rule-asked r c k h t = record { readied = k; low = h; gave = t .is (k .rules) n (k .is .tabled) (k .is .placed) h }
 
-    pub headed-next : (r : ℕ) (c : Compiling) (a b d : Tape) → Headed n r a b → r < n → Told ops nums firsts counts nodes nfirsts ncounts refusals starts bits r c → RuleListed lent n r c b d → Headed n (r + 1) a d
+    pub headed-next : (r : ℕ) (c : Compiling) (a b d : Tape) → Headed n r a b → r < n → ToldRule ops nums firsts counts nodes nfirsts ncounts refusals starts bits r c → RuleListed lent n r c b d → Headed n (r + 1) a d
     unfolding upto
     headed-next r c a b d s h t w = record {
       high = omega arith;
@@ -88,19 +88,19 @@ module _ (ops nums labels lens kinds firsts counts nodes nfirsts ncounts refusal
   tables = record { ops = ops; nums = nums; labels = labels; lens = lens; kinds = kinds; firsts = firsts; counts = counts }
 
   module _ (n : ℕ) where
-    pub fillable : Known tables n → Roomed nodes nfirsts ncounts refusals → Fillable ops nums kinds firsts counts nodes nfirsts ncounts refusals n
+    pub fillable : KnownBook tables n → Roomed nodes nfirsts ncounts refusals → Fillable ops nums kinds firsts counts nodes nfirsts ncounts refusals n
     fillable k m = record { rules = k .rules; held = k .is .held; in-nodes = m .in-nodes; in-nfirsts = m .in-nfirsts; in-ncounts = m .in-ncounts; in-refusals = m .in-refusals }
 
-    pub placeable : Known tables n → Filled ops nums kinds firsts counts nodes nfirsts ncounts refusals n → 64 ≤ length starts → 64 ≤ length bits → Placeable kinds nodes nfirsts ncounts refusals n starts bits
+    pub placeable : KnownBook tables n → FilledRules ops nums kinds firsts counts nodes nfirsts ncounts refusals n → 64 ≤ length starts → 64 ≤ length bits → Placeable kinds nodes nfirsts ncounts refusals n starts bits
     placeable k f s b = record { ops = ops; nums = nums; firsts = firsts; counts = counts; rules = k .rules; held = k .is .held; tabled = f .is (k .rules) (k .is .held); in-starts = s; in-bits = b }
 
-    ready : (R : ℕ → Rule) → Holds tables R n → Filled ops nums kinds firsts counts nodes nfirsts ncounts refusals n → Places kinds nodes nfirsts ncounts refusals n starts bits → Ready lent R n
+    ready : (R : ℕ → Rule) → HoldsRules tables R n → FilledRules ops nums kinds firsts counts nodes nfirsts ncounts refusals n → Places kinds nodes nfirsts ncounts refusals n starts bits → BookReady lent R n
     ready R k f p =
         let t : Tabled ops nums firsts counts nodes nfirsts ncounts refusals R n = f .is R (k .held) in
         record { labelled = k .labelled; held = k .held; tabled = t; placed = p .is ops nums firsts counts R (k .held) t }
 
-    pub readied : Known tables n → Filled ops nums kinds firsts counts nodes nfirsts ncounts refusals n → Places kinds nodes nfirsts ncounts refusals n starts bits → Readied lent n
+    pub readied : KnownBook tables n → FilledRules ops nums kinds firsts counts nodes nfirsts ncounts refusals n → Places kinds nodes nfirsts ncounts refusals n starts bits → Readied lent n
     readied k f p = record { rules = k .rules; is = ready (k .rules) (k .is) f p }
 
-    pub head-listed : (a b : Tape) → Filled ops nums kinds firsts counts nodes nfirsts ncounts refusals n → Places kinds nodes nfirsts ncounts refusals n starts bits → RulesListed lent n a b → HeadListed tables n nodes nfirsts ncounts refusals a b
+    pub head-listed : (a b : Tape) → FilledRules ops nums kinds firsts counts nodes nfirsts ncounts refusals n → Places kinds nodes nfirsts ncounts refusals n starts bits → RulesListed lent n a b → HeadListed tables n nodes nfirsts ncounts refusals a b
     head-listed a b f p w = record { text = λ R k. w .is R (ready R k f p); tabled = λ R k. f .is R (k .held) }

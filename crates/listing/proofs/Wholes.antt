@@ -8,27 +8,27 @@ use borrow.Author.Tests.{le-leb, lt-leb}
 use lib.Dec.{leb}
 use lib.ListN.{length, getD, take, drop, length-append, length-drop, take-append-drop}
 use Rattle.book.specs.Book.{Book}
-use Rattle.reader.specs.Tables.{Tables}
+use Rattle.reader.specs.Tables.{BookTables}
 use Rattle.reader.specs.Answer.{Reads, Roomy}
 use Rattle.reader.specs.declared.read.Answer.{Answer}
 use Rattle.reader.specs.declared.read.Answer.the-variants.{Read as Taken, Refused as NotTaken}
 use Rattle.text.specs.Tape.{Tape, tape, Wrote}
 use Rattle.text.proofs.Tapes.{as-text, then, wrote-first}
-use Rattle.rules.specs.Rules.{Rule}
-use Rattle.rules.specs.Tabled.{Held, Tabled, Placed}
+use Rattle.listing_rules.specs.Rules.{Rule}
+use Rattle.listing_rules.specs.Tabled.{Held, Tabled, Placed}
 use Rattle.listing_text.specs.Listing.{listing, listingOf, ruleAt, rulesText, rulesListing, refusedLine, reportLines, endLine}
 use Rattle.listing_size.specs.Room.{listingRoom}
 use Rattle.listing_size.proofs.ListingFits.{listing-fits}
 use Rattle.reader.proofs.Runs.{accepted-short}
 use Rattle.listing_size.specs.Handed.{Handed}
 use Rattle.listing_size.proofs.Handing.{handed, refused-listing}
-use Rattle.stepped_lines.specs.Holding.{Rows}
-use Rattle.stepped_lines.specs.Stepped.{StepsDue, StepsReported}
-use Rattle.stepped_lines.proofs.Tables.{tabled-rows}
+use Rattle.listing_steps.specs.Holding.{Rows}
+use Rattle.listing_steps.specs.Stepped.{StepsDue, StepsReported}
+use Rattle.listing_steps.proofs.Tables.{tabled-rows}
 use Rattle.result.specs.Result.{given}
 use Rattle.listing.specs.declared.whole.Listed.{Listed}
 use Rattle.listing.specs.declared.whole.Listed.the-variants.{Text, Refused}
-use Rattle.listing.specs.Whole.{Read, Holds, Known, HeadListed, Compiled, TailListed, reportsFrom, tailText}
+use Rattle.listing.specs.Whole.{Read, HoldsRules, KnownBook, HeadListed, Compiled, TailListed, reportsFrom, tailText}
 use Rattle.listing.specs.Lists.{Call, orShort, listCall, Answers, Within}
 
 -- ---- the entry point
@@ -55,10 +55,10 @@ module _ (text out out′ : List ℕ) (n : ℕ) (w : Wrote (tape out 0) (listing
 
 -- ---- reading
 module _ (text labels lens kinds firsts counts ops nums labels′ lens′ kinds′ firsts′ counts′ ops′ nums′ : List ℕ) where
-  abbrev before : Tables
+  abbrev before : BookTables
   before = record { labels = labels; lens = lens; kinds = kinds; firsts = firsts; counts = counts; ops = ops; nums = nums }
 
-  abbrev after : Tables
+  abbrev after : BookTables
   after = record { labels = labels′; lens = lens′; kinds = kinds′; firsts = firsts′; counts = counts′; ops = ops′; nums = nums′ }
 
   module _ (a : 2048 ≡ length labels) (b : 64 ≡ length lens) (c : 64 ≡ length kinds) (d : 64 ≡ length firsts) (e : 64 ≡ length counts) (f : 1024 ≡ length ops) (g : 1024 ≡ length nums) where
@@ -78,10 +78,10 @@ module _ (text labels lens kinds firsts counts ops nums : List ℕ) (n from : �
   abbrev tables : Read
   tables = record { ops = ops; nums = nums; labels = labels; lens = lens; kinds = kinds; firsts = firsts; counts = counts }
 
-  holds : Holds tables (ruleAt (h .book)) n
+  holds : HoldsRules tables (ruleAt (h .book)) n
   holds = record { labelled = record { in-labels = h .in-labels; in-lens = h .in-lens; inside = h .in-label; label = h .label }; held = h .held }
 
-  pub known : Known tables n
+  pub known : KnownBook tables n
   known = record { rules = ruleAt (h .book); is = holds }
 
   module _ (nodes nfirsts ncounts refusals : List ℕ) (x y : Tape) (w : HeadListed tables n nodes nfirsts ncounts refusals x y) where

@@ -5,6 +5,7 @@ use mathlib.Core.Path.{_≡_}
 use Prim.Native.Nat.{ℕ, _≤_}
 use lib.Dec.{leb}
 use lib.ListN.{length, drop}
+use Rattle.terms.specs.Limits.{listingBytes}
 use Rattle.result.specs.Result.{Result, given, refused}
 use Rattle.listing_text.specs.Listing.{listing}
 use Rattle.listing.specs.declared.whole.Listed.{Listed}
@@ -27,7 +28,7 @@ orShort false out c = record { answer = refused 1; out = out }
 -- the rest is as before. No listing is longer (`listing-fits`, crate listing_size)
 unfoldable pub listCall : List ℕ → List ℕ → Call
 listCall text out =
-    orShort (leb 262144 (length out)) out
+    orShort (leb listingBytes (length out)) out
     (record { answer = given (length (listing text)); out = listing text ++ drop (length (listing text)) out })
 
 pub record Answers (c : Call) (r : Listed) (out : List ℕ) : Type 0 where

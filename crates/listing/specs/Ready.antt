@@ -3,10 +3,11 @@ use mathlib.Core.List.{List}
 use mathlib.Core.Path.{_≡_}
 use Prim.Native.Nat.{ℕ, _+_, _*_, _≤_, _<_}
 use lib.ListN.{length, getD, take, drop}
+use Rattle.terms.specs.Limits.{bookRules}
 use Rattle.text.specs.Tape.{Tape, Wrote}
-use Rattle.lines.specs.declared.rule.Compiling.{Compiling}
-use Rattle.rules.specs.Rules.{Rule, compilingOf}
-use Rattle.rules.specs.Tabled.{Held, Tabled, Placed}
+use Rattle.listing_line.specs.declared.rule.Compiling.{Compiling}
+use Rattle.listing_rules.specs.Rules.{Rule, compilingOf}
+use Rattle.listing_rules.specs.Tabled.{Held, Tabled, Placed}
 use Rattle.listing_text.specs.Listing.{upto, ruleText, rulesText}
 
 -- the lists that are lent
@@ -25,15 +26,33 @@ pub record Lent : Type 0 where
   pub starts : List ℕ
   pub bits : List ℕ
 
+abbrev pub lists :
+    List ℕ → List ℕ → List ℕ → List ℕ → List ℕ → List ℕ → List ℕ → List ℕ → List ℕ → List ℕ → List ℕ → List ℕ → List ℕ → Lent
+lists ops nums labels lens kinds firsts counts nodes nfirsts ncounts refusals starts bits = record {
+  ops = ops;
+  nums = nums;
+  labels = labels;
+  lens = lens;
+  kinds = kinds;
+  firsts = firsts;
+  counts = counts;
+  nodes = nodes;
+  nfirsts = nfirsts;
+  ncounts = ncounts;
+  refusals = refusals;
+  starts = starts;
+  bits = bits;
+}
+
 -- each label stands in front of its own 32 bytes
 pub record Labelled (labels lens : List ℕ) (R : ℕ → Rule) (n : ℕ) : Type 0 where
   pub in-labels : 2048 ≤ length labels
-  pub in-lens : 64 ≤ length lens
+  pub in-lens : bookRules ≤ length lens
   pub inside : (r : ℕ) → r < n → 32 * r + getD lens r 0 ≤ 2048
   pub label : (r : ℕ) → r < n → take (getD lens r 0) (drop (32 * r) labels) ≡ R r .label
 
 -- the first n rules of R: read, compiled and placed
-pub record Ready (l : Lent) (R : ℕ → Rule) (n : ℕ) : Type 0 where
+pub record BookReady (l : Lent) (R : ℕ → Rule) (n : ℕ) : Type 0 where
   pub labelled : Labelled (l .labels) (l .lens) R n
   pub held : Held (l .ops) (l .nums) (l .kinds) (l .firsts) (l .counts) R n
   pub tabled : Tabled (l .ops) (l .nums) (l .firsts) (l .counts) (l .nodes) (l .nfirsts) (l .ncounts) (l .refusals) R n
@@ -41,7 +60,7 @@ pub record Ready (l : Lent) (R : ℕ → Rule) (n : ℕ) : Type 0 where
 
 pub record Readied (l : Lent) (n : ℕ) : Type 0 where
   pub rules : ℕ → Rule
-  pub is : Ready l rules n
+  pub is : BookReady l rules n
 
 -- rule r, with what compiling gave
 pub record RuleReady (l : Lent) (n r : ℕ) (c : Compiling) : Type 0 where
@@ -50,8 +69,8 @@ pub record RuleReady (l : Lent) (n r : ℕ) (c : Compiling) : Type 0 where
   pub gave : c ≡ compilingOf (readied .rules) n r
 
 pub record RuleListed (l : Lent) (n r : ℕ) (c : Compiling) (before after : Tape) : Type 0 where
-  pub is : (R : ℕ → Rule) → Ready l R n → c ≡ compilingOf R n r → Wrote before (ruleText R n r) after
+  pub is : (R : ℕ → Rule) → BookReady l R n → c ≡ compilingOf R n r → Wrote before (ruleText R n r) after
 
 -- all rules
 pub record RulesListed (l : Lent) (n : ℕ) (before after : Tape) : Type 0 where
-  pub is : (R : ℕ → Rule) → Ready l R n → Wrote before (rulesText R n) after
+  pub is : (R : ℕ → Rule) → BookReady l R n → Wrote before (rulesText R n) after

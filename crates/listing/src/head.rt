@@ -1,17 +1,18 @@
 // The lines of a book's rules.
 use line::text::past;
 use line::text::upto;
-use lines::rule::Compiling;
-use rule_lines::section::put_section;
-use rules::compile::compile_rules;
-use rules::fields::compiling_at;
-use rules::place::place_rules;
+use listing_line::rule::Compiling;
+use listing_rules::compile::compile_rules;
+use listing_rules::fields::compiling_at;
+use listing_rules::place::place_rules;
+use listing_section::section::put_section;
+use terms::limit::BOOK_RULES;
 ghost use Rattle.text.specs.Tape.{tape};
-ghost use Rattle.listing.specs.Ready.{Lent, Readied, RuleReady, RuleListed, RulesListed};
-ghost use Rattle.listing.specs.Whole.{Read, Known, Roomed, HeadListed};
+ghost use Rattle.listing.specs.Ready.{lists, Readied, RuleReady, RuleListed, RulesListed};
+ghost use Rattle.listing.specs.Whole.{readIn, KnownBook, Roomed, HeadListed};
 
 // The lines of rule r, with what compiling gave.
-pub fn put_rule_at(
+pub(crate) fn put_rule_at(
     out: &mut [u8],
     at: usize,
     ops: &[u8],
@@ -31,8 +32,11 @@ pub fn put_rule_at(
     r: usize,
     c: Compiling,
 ) -> usize
-    requires { ⌜ RuleReady (record { ops = now ops; nums = now nums; labels = now labels; lens = now lens; kinds = now kinds; firsts = now firsts; counts = now counts; nodes = now nodes; nfirsts = now nfirsts; ncounts = now ncounts; refusals = now refusals; starts = now starts; bits = now bits }) n r c ⌝ }
-    ensures { λ e. ⌜ RuleListed (record { ops = now (ops .entry); nums = now (nums .entry); labels = now (labels .entry); lens = now (lens .entry); kinds = now (kinds .entry); firsts = now (firsts .entry); counts = now (counts .entry); nodes = now (nodes .entry); nfirsts = now (nfirsts .entry); ncounts = now (ncounts .entry); refusals = now (refusals .entry); starts = now (starts .entry); bits = now (bits .entry) }) n r c (tape (now (out .entry)) at) (tape (now (out .exit)) e) ⌝ }
+    requires { ⌜ RuleReady (lists (now ops) (now nums) (now labels) (now lens) (now kinds) (now firsts) (now counts) (now nodes) (now nfirsts)
+        (now ncounts) (now refusals) (now starts) (now bits)) n r c ⌝ }
+    ensures { λ e. ⌜ RuleListed (lists (now (ops .entry)) (now (nums .entry)) (now (labels .entry)) (now (lens .entry)) (now (kinds .entry))
+        (now (firsts .entry)) (now (counts .entry)) (now (nodes .entry)) (now (nfirsts .entry)) (now (ncounts .entry)) (now (refusals .entry))
+        (now (starts .entry)) (now (bits .entry))) n r c (tape (now (out .entry)) at) (tape (now (out .exit)) e) ⌝ }
 {
     let rest = past(labels, 32 * r);
     let label = upto(rest, lens[r]);
@@ -54,7 +58,7 @@ pub fn put_rule_at(
 }
 
 // The lines of all rules.
-pub fn put_rules(
+pub(crate) fn put_rules(
     out: &mut [u8],
     at: usize,
     ops: &[u8],
@@ -72,8 +76,11 @@ pub fn put_rules(
     bits: &[u64],
     n: usize,
 ) -> usize
-    requires { ⌜ Readied (record { ops = now ops; nums = now nums; labels = now labels; lens = now lens; kinds = now kinds; firsts = now firsts; counts = now counts; nodes = now nodes; nfirsts = now nfirsts; ncounts = now ncounts; refusals = now refusals; starts = now starts; bits = now bits }) n ⌝ }
-    ensures { λ e. ⌜ RulesListed (record { ops = now (ops .entry); nums = now (nums .entry); labels = now (labels .entry); lens = now (lens .entry); kinds = now (kinds .entry); firsts = now (firsts .entry); counts = now (counts .entry); nodes = now (nodes .entry); nfirsts = now (nfirsts .entry); ncounts = now (ncounts .entry); refusals = now (refusals .entry); starts = now (starts .entry); bits = now (bits .entry) }) n (tape (now (out .entry)) at) (tape (now (out .exit)) e) ⌝ }
+    requires { ⌜ Readied (lists (now ops) (now nums) (now labels) (now lens) (now kinds) (now firsts) (now counts) (now nodes) (now nfirsts)
+        (now ncounts) (now refusals) (now starts) (now bits)) n ⌝ }
+    ensures { λ e. ⌜ RulesListed (lists (now (ops .entry)) (now (nums .entry)) (now (labels .entry)) (now (lens .entry)) (now (kinds .entry))
+        (now (firsts .entry)) (now (counts .entry)) (now (nodes .entry)) (now (nfirsts .entry)) (now (ncounts .entry)) (now (refusals .entry))
+        (now (starts .entry)) (now (bits .entry))) n (tape (now (out .entry)) at) (tape (now (out .exit)) e) ⌝ }
 {
     let mut place = at;
     let mut r: usize = 0;
@@ -117,7 +124,7 @@ pub fn put_rules(
 }
 
 // The rules are compiled and placed, and their lines written.
-pub fn put_head(
+pub(crate) fn put_head(
     out: &mut [u8],
     ops: &[u8],
     nums: &[u64],
@@ -132,11 +139,14 @@ pub fn put_head(
     ncounts: &mut [usize],
     refusals: &mut [u64],
 ) -> usize
-    requires { ⌜ (Known (record { ops = now ops; nums = now nums; labels = now labels; lens = now lens; kinds = now kinds; firsts = now firsts; counts = now counts }) n) × (Roomed (now nodes) (now nfirsts) (now ncounts) (now refusals)) ⌝ }
-    ensures { λ e. ⌜ HeadListed (record { ops = now (ops .entry); nums = now (nums .entry); labels = now (labels .entry); lens = now (lens .entry); kinds = now (kinds .entry); firsts = now (firsts .entry); counts = now (counts .entry) }) n (now (nodes .exit)) (now (nfirsts .exit)) (now (ncounts .exit)) (now (refusals .exit)) (tape (now (out .entry)) 0) (tape (now (out .exit)) e) ⌝ }
+    requires { ⌜ (KnownBook (readIn (now ops) (now nums) (now labels) (now lens) (now kinds) (now firsts) (now counts)) n)
+        × (Roomed (now nodes) (now nfirsts) (now ncounts) (now refusals)) ⌝ }
+    ensures { λ e. ⌜ HeadListed (readIn (now (ops .entry)) (now (nums .entry)) (now (labels .entry)) (now (lens .entry)) (now (kinds .entry))
+        (now (firsts .entry)) (now (counts .entry))) n (now (nodes .exit)) (now (nfirsts .exit)) (now (ncounts .exit)) (now (refusals .exit))
+        (tape (now (out .entry)) 0) (tape (now (out .exit)) e) ⌝ }
 {
-    let mut starts: [u64; 64] = [0; 64];
-    let mut bits: [u64; 64] = [0; 64];
+    let mut starts: [u64; BOOK_RULES] = [0; BOOK_RULES];
+    let mut bits: [u64; BOOK_RULES] = [0; BOOK_RULES];
     compile_rules(
         ops,
         nums,

@@ -1,12 +1,15 @@
 // Listing a whole book: it is read, its rules are listed, its steps stepped.
 use crate::head::put_head;
 use crate::tail::put_tail;
+use listing_report::put_refused;
 use reader::read::Answer;
 use reader::read::read_book;
-use report_lines::put_refused;
+use terms::limit::BOOK_NODES;
+use terms::limit::BOOK_RULES;
+use terms::limit::LISTING_BYTES;
 ghost use Rattle.text.specs.Tape.{tape, Wrote};
 ghost use Rattle.listing_text.specs.Listing.{listing};
-ghost use Rattle.reader.specs.Tables.{Tables};
+ghost use Rattle.reader.specs.Tables.{columns};
 ghost use Rattle.listing_size.specs.Handed.{Handed};
 ghost use Rattle.listing.specs.Lists.{Answers, Within, listCall};
 
@@ -30,13 +33,13 @@ fn list_accepted(
     n: usize,
     out: &mut [u8],
 ) -> usize
-    requires { ⌜ Handed (now text) (record { labels = now labels; lens = now lens; kinds = now kinds; firsts = now firsts; counts = now counts; ops = now ops; nums = now nums }) n from ⌝ }
+    requires { ⌜ Handed (now text) (columns (now labels) (now lens) (now kinds) (now firsts) (now counts) (now ops) (now nums)) n from ⌝ }
     ensures { λ e. ⌜ Wrote (tape (now (out .entry)) 0) (listing (now (text .entry))) (tape (now (out .exit)) e) ⌝ }
 {
     let mut nodes: [u64; 8960] = [0; 8960];
-    let mut nfirsts: [usize; 64] = [0; 64];
-    let mut ncounts: [usize; 64] = [0; 64];
-    let mut refusals: [u64; 64] = [0; 64];
+    let mut nfirsts: [usize; BOOK_RULES] = [0; BOOK_RULES];
+    let mut ncounts: [usize; BOOK_RULES] = [0; BOOK_RULES];
+    let mut refusals: [u64; BOOK_RULES] = [0; BOOK_RULES];
     let place = put_head(
         out,
         ops,
@@ -74,12 +77,12 @@ fn list_text(text: &[u8], out: &mut [u8]) -> usize
     ensures { λ r. ⌜ Wrote (tape (now (out .entry)) 0) (listing (now (text .entry))) (tape (now (out .exit)) r) ⌝ }
 {
     let mut labels: [u8; 2048] = [0; 2048];
-    let mut lens: [usize; 64] = [0; 64];
-    let mut kinds: [u8; 64] = [0; 64];
-    let mut firsts: [usize; 64] = [0; 64];
-    let mut counts: [usize; 64] = [0; 64];
-    let mut ops: [u8; 1024] = [0; 1024];
-    let mut nums: [u64; 1024] = [0; 1024];
+    let mut lens: [usize; BOOK_RULES] = [0; BOOK_RULES];
+    let mut kinds: [u8; BOOK_RULES] = [0; BOOK_RULES];
+    let mut firsts: [usize; BOOK_RULES] = [0; BOOK_RULES];
+    let mut counts: [usize; BOOK_RULES] = [0; BOOK_RULES];
+    let mut ops: [u8; BOOK_NODES] = [0; BOOK_NODES];
+    let mut nums: [u64; BOOK_NODES] = [0; BOOK_NODES];
     let answer = read_book(
         text,
         &mut labels,
@@ -121,7 +124,7 @@ pub fn list_book(text: &[u8], out: &mut [u8]) -> Listed
     ensures { λ r. ⌜ Answers (listCall (now (text .entry)) (now (out .entry))) r (now (out .exit)) ⌝ }
     ensures { λ r. ⌜ Within r (now (out .exit)) ⌝ }
 {
-    if out.len() < 262144 {
+    if out.len() < LISTING_BYTES {
         return Listed::Refused(1);
     }
     let n = list_text(text, out);

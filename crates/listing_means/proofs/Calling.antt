@@ -10,7 +10,7 @@ use lib.IntN.{ℤ}
 use Rattle.formula.proofs.Cases.{true-false}
 use Rattle.meaning.specs.State.{failed, culprit}
 use Rattle.book.specs.Book.{StepLine}
-use Rattle.rules.specs.Rules.{Rule, compiles, mon}
+use Rattle.listing_rules.specs.Rules.{Rule, compiles, mon}
 use Rattle.listing_text.specs.Listing.{States, freshStates, nextStates, Report, breaks, reportOf, reportsAt, reports}
 use Rattle.listing_means.specs.Reports.{_∈_}
 use Rattle.listing_means.specs.Called.{stateAt, Called, alone}

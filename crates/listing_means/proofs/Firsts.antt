@@ -17,7 +17,7 @@ use Rattle.meaning.specs.State.{State, failed, culprit, fresh, step, after}
 use Rattle.meaning.proofs.Steps.{first-alarm}
 use Rattle.meaning.proofs.Meaning.{report-is-first, report-of-record, culprit-unique, plain-rules}
 use Rattle.book.specs.Book.{StepLine}
-use Rattle.rules.specs.Rules.{Rule, isNone, compiles, mon}
+use Rattle.listing_rules.specs.Rules.{Rule, isNone, compiles, mon}
 use Rattle.listing_text.specs.Listing.{freshStates, Report, reports}
 use Rattle.listing_means.specs.Reports.{_∈_, lineAt, InOrderLines, Begins, Says, Reported, PlainSays}
 use Rattle.listing_means.specs.Called.{stateAt, Called}

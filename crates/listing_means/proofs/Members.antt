@@ -5,10 +5,10 @@ use mathlib.Core.List.{List, [], _∷_, _++_}
 use mathlib.Core.Logic.{_⊎_, inl, inr, ⊎-elim}
 use Prim.Native.Nat.{ℕ, zero, suc, _<_}
 use native.Mathlib.Omega.{arith}
-use Rattle.number.specs.Number.{pick}
+use Rattle.terms.specs.Choice.{pick}
 use Rattle.formula.proofs.Cases.{below-or}
 use Rattle.book.specs.Book.{StepLine}
-use Rattle.rules.specs.Rules.{Rule}
+use Rattle.listing_rules.specs.Rules.{Rule}
 use Rattle.listing_text.specs.Listing.{States, Report, breaks, reportOf, reportsAt}
 use Rattle.listing_means.specs.Reports.{_∈_}
 

@@ -7,9 +7,9 @@ use Prim.Native.Nat.{ℕ, zero, suc, _+_, _≤_, _<_}
 use native.Mathlib.Omega.{arith}
 use native.Mathlib.Nat.{add-zero, zero-add}
 use lib.ListN.{length}
-use Rattle.number.specs.Number.{pick}
+use Rattle.terms.specs.Choice.{pick}
 use Rattle.book.specs.Book.{StepLine}
-use Rattle.rules.specs.Rules.{Rule}
+use Rattle.listing_rules.specs.Rules.{Rule}
 use Rattle.listing_text.specs.Listing.{States, nextStates, Report, breaks, reportOf, reportsAt, reports}
 use Rattle.listing_means.specs.Reports.{_∈_, lineAt, InOrderLines, Earlier, Ascending, ByLine}
 

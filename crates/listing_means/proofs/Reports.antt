@@ -10,7 +10,7 @@ use Rattle.meaning.specs.Alarm.{Record, Alarm}
 use Rattle.meaning.specs.Plain.{Plain}
 use Rattle.meaning.specs.State.{fresh}
 use Rattle.book.specs.Book.{Book, StepLine, accepted, read}
-use Rattle.rules.specs.Rules.{Rule, compiles, mon}
+use Rattle.listing_rules.specs.Rules.{Rule, compiles, mon}
 use Rattle.listing_text.specs.Listing.{freshStates, Report, reports, ruleAt, rulesListing}
 use Rattle.listing_size.proofs.Handing.{accepted-listing}
 use Rattle.listing_means.specs.Reports.{_∈_, InOrderLines, Begins, truthsOf, Says, Reported, PlainSays, Ascending, ByLine, Listed}

@@ -9,7 +9,7 @@ use lib.ListN.{length}
 use Rattle.monitor.specs.Mon.{Mon}
 use Rattle.meaning.specs.State.{State, failed, culprit, step}
 use Rattle.book.specs.Book.{StepLine}
-use Rattle.rules.specs.Rules.{Rule, compiles, mon}
+use Rattle.listing_rules.specs.Rules.{Rule, compiles, mon}
 use Rattle.listing_text.specs.Listing.{Report}
 use Rattle.listing_means.specs.Reports.{lineAt}
 

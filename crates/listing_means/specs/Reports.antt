@@ -16,7 +16,7 @@ use Rattle.meaning.specs.Alarm.{Record, Alarm, First}
 use Rattle.meaning.specs.Culprit.{Culprit}
 use Rattle.meaning.specs.Logic.{Fails}
 use Rattle.book.specs.Book.{Book, StepLine}
-use Rattle.rules.specs.Rules.{Rule, compiles, mon}
+use Rattle.listing_rules.specs.Rules.{Rule, compiles, mon}
 use Rattle.listing_text.specs.Listing.{Report, freshStates, reports, rulesText, reportLines, endLine, ruleAt, listing}
 
 -- a report stands in a list

@@ -14,13 +14,13 @@ use Rattle.formula.specs.Tree.{size}
 use Rattle.formula.specs.Table.{ruleOf}
 use Rattle.formula.proofs.Rules.{rule-of, rule-inv}
 use Rattle.book.specs.Book.{Book, accepted, read}
-use Rattle.reader.specs.Tables.{Tables, cells, written, readInto}
+use Rattle.reader.specs.Tables.{BookTables, cells, written, readInto}
 use Rattle.reader.specs.Answer.{Roomy}
 use Rattle.reader.proofs.Sounds.{Sound, Short}
 use Rattle.reader.proofs.Columns.{over-long, cells-long}
 use Rattle.reader.proofs.Runs.{roomy-is}
 use Rattle.book_laws.proofs.RuleLaws.{Done, Stacked, Kinded, stacked-next, stacked-inside, formula-at, rule-at, rule-in-tables, over-at, into-accepted, accepted-done}
-use Rattle.rules.specs.Tabled.{Held}
+use Rattle.listing_rules.specs.Tabled.{Held}
 use Rattle.listing_text.specs.Listing.{formulaOr, ruleAt}
 
 -- ---- the book's own lists
@@ -95,7 +95,7 @@ cells-at (x ∷ xs) l (suc r) s h k =
     ∙ cells-at xs (drop 32 l) r (s .1) (omega arith) (omega (arith, length-drop 32 l))
 
 -- ---- the tables that reading leaves
-module _ (text : List ℕ) (t : Tables) (b : Book) (e : readInto text t ≡ accepted b) where
+module _ (text : List ℕ) (t : BookTables) (b : Book) (e : readInto text t ≡ accepted b) where
   roomed : Roomy t
   roomed = roomy-is t (into-accepted text t b e .0)
 

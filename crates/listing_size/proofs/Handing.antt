@@ -5,9 +5,9 @@ use mathlib.Core.List.{List, map}
 use Prim.Native.Nat.{ℕ, _≤_}
 use native.Mathlib.Omega.{arith}
 use lib.ListN.{length, length-map}
-use Rattle.number.specs.Number.{pick}
+use Rattle.terms.specs.Choice.{pick}
 use Rattle.book.specs.Book.{Book, accepted, refused, read}
-use Rattle.reader.specs.Tables.{Tables, written, readInto}
+use Rattle.reader.specs.Tables.{BookTables, written, readInto}
 use Rattle.reader.specs.Answer.{Roomy, Reads}
 use Rattle.reader.specs.declared.read.Answer.the-variants.{Read, Refused}
 use Rattle.reader.proofs.Answers.{has-room, read-inv, refused-inv}
@@ -23,7 +23,7 @@ pub accepted-listing : (text : List ℕ) (b : Book) → read text ≡ accepted b
 unfolding listing
 accepted-listing text b e = ap listingOf e
 
-module _ (text : List ℕ) (t : Tables) (b : Book) (e : readInto text t ≡ accepted b) where
+module _ (text : List ℕ) (t : BookTables) (b : Book) (e : readInto text t ≡ accepted b) where
   lens-long : 64 ≤ length (written b t .lens)
   unfolding written
   lens-long =
@@ -47,11 +47,11 @@ module _ (text : List ℕ) (t : Tables) (b : Book) (e : readInto text t ≡ acce
       }
 
 -- t the tables before, t′ after
-module _ (text : List ℕ) (t t′ : Tables) where
+module _ (text : List ℕ) (t t′ : BookTables) where
   pub handed : (rules nodes steps-at : ℕ) → Reads text t (Read rules nodes steps-at) t′ → length (t .ops) ≡ 1024 → length (t .nums) ≡ 1024 → Handed text t′ rules steps-at
   handed rules nodes steps-at u o m =
       let (b, e, w, r, n, s) = read-inv text t t′ rules nodes steps-at u in
-      subst (λ (x : Tables). Handed text x rules steps-at) (sym w)
+      subst (λ (x : BookTables). Handed text x rules steps-at) (sym w)
       (subst (λ (k : ℕ). Handed text (written b t) k steps-at) (sym r)
       (subst (Handed text (written b t) (length (b .labels))) (sym s) (written-handed text t b e o m)))
 

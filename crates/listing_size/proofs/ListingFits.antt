@@ -7,7 +7,7 @@ use native.Mathlib.Omega.{arith}
 use native.Mathlib.Numerals.{add-one}
 use lib.ListN.{length, getD, length-append}
 use Rattle.book.specs.Book.{Book, Outcome, accepted, refused, read}
-use Rattle.book_laws.specs.Write.{decimal}
+use Rattle.number.specs.Digits.{decimal}
 use Rattle.text.specs.Tape.{signed}
 use Rattle.listing_text.specs.Listing.{upto, ruleText, rulesText, freshStates, Report, reports, reportWord, reportLine, reportLines, endLine, rulesListing, ruleAt, refusedLine, listingOf, listing}
 use Rattle.listing_size.specs.Room.{listingRoom}

@@ -10,12 +10,12 @@ use native.Mathlib.Omega.{arith}
 use borrow.Author.Tests.{eqb-true, ne-eqb}
 use lib.Dec.{eqb}
 use lib.ListN.{length, length-append}
-use Rattle.number.specs.Number.{pick}
+use Rattle.terms.specs.Choice.{pick}
 use Rattle.formula.proofs.Cases.{true-false}
 use Rattle.meaning.specs.State.{failed}
 use Rattle.meaning.proofs.Meaning.{stays-marked}
 use Rattle.book.specs.Book.{StepLine}
-use Rattle.rules.specs.Rules.{Rule, compiles, mon}
+use Rattle.listing_rules.specs.Rules.{Rule, compiles, mon}
 use Rattle.listing_text.specs.Listing.{States, nextStates, Report, breaks, reportOf, reportsAt, reports}
 use Rattle.listing_size.specs.Times.{timesOf}
 

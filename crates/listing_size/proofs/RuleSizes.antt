@@ -6,7 +6,7 @@ use mathlib.Core.List.{List, [], _∷_, _++_}
 use Prim.Native.Nat.{ℕ, _+_, _-_, _*_, _≤_}
 use native.Mathlib.Omega.{arith}
 use lib.ListN.{length, length-append}
-use Rattle.number.specs.Number.{pick}
+use Rattle.terms.specs.Choice.{pick}
 use Rattle.formula.specs.Tree.{leaf, one, two, size}
 use Rattle.formula.specs.Formula.{Formula, not, next, always, eventually, always-for, within, and, or, implies, until}
 use Rattle.formula.specs.Text.{atom}
@@ -20,19 +20,20 @@ use Rattle.monitor.specs.Compile.{anchor, implication, node}
 use Rattle.liveness.specs.Split.{Obligation, E, U, owed, Answer, none, parts, refused, live, faults, firstOr, skeletonOf, obligationsOf, splitOf, owes}
 use Rattle.liveness.specs.Split as split
 use Rattle.liveness.specs.Text.{Mark, written, number, byte, skeletonText}
-use Rattle.book_laws.specs.Write.{decimal, kindByte}
+use Rattle.number.specs.Digits.{decimal}
+use Rattle.line.specs.Line.{kindByte}
 use Rattle.text.specs.Tape.{joined}
 use Rattle.spelling.specs.Spelling.{signalText, operandText}
-use Rattle.lines.specs.Line.{absent}
-use Rattle.lines.specs.Node.{nodeWord, endText, checkFields, joinFields, lineOf, nodeLines}
-use Rattle.lines.specs.Rule.{ruleWord, alikeText, ruleLine}
-use Rattle.lines.specs.declared.rule.Alike.{Alike}
-use Rattle.lines.specs.declared.rule.Alike.the-variants.{To, Nothing}
-use Rattle.lines.specs.declared.rule.Compiling.{Compiling}
-use Rattle.lines.specs.declared.rule.Compiling.the-variants.{Compiled, Refused}
-use Rattle.live_lines.specs.Live.{markText, marksText, liveWord, noneWord, oweWord, liveLine, oweLine, oweLines}
-use Rattle.live_lines.proofs.Entries.{marks-append}
-use Rattle.rules.specs.Rules.{Rule, property, compiles, mon, compilingOf}
+use Rattle.listing_line.specs.Line.{absent}
+use Rattle.listing_line.specs.Node.{nodeWord, endText, checkFields, joinFields, lineOf, nodeLines}
+use Rattle.listing_line.specs.Rule.{ruleWord, alikeText, ruleLine}
+use Rattle.listing_line.specs.declared.rule.Alike.{Alike}
+use Rattle.listing_line.specs.declared.rule.Alike.the-variants.{To, Nothing}
+use Rattle.listing_line.specs.declared.rule.Compiling.{Compiling}
+use Rattle.listing_line.specs.declared.rule.Compiling.the-variants.{Compiled, Refused}
+use Rattle.listing_live.specs.Live.{markText, marksText, liveWord, noneWord, oweWord, liveLine, oweLine, oweLines}
+use Rattle.listing_live.proofs.Entries.{marks-append}
+use Rattle.listing_rules.specs.Rules.{Rule, property, compiles, mon, compilingOf}
 use Rattle.listing_text.specs.Listing.{owesOf, nodesText, liveText, owesText, ruleText}
 use Rattle.listing_size.proofs.TextSizes.{decimal-short, line-long, joined-one, joined-more, joined-both, spell-short, signs-short, operand-short}
 

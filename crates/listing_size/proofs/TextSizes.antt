@@ -7,16 +7,16 @@ use native.Mathlib.Omega.{arith}
 use lib.Dec.{ltb}
 use lib.IntN.{ℤ, pos, negsuc}
 use lib.ListN.{length, length-append}
-use Rattle.number.specs.Number.{pick}
+use Rattle.terms.specs.Choice.{pick}
 use Rattle.formula.specs.Tree.{leaf, one, two, size}
 use Rattle.formula.specs.Formula.{Formula, var, input, output, not, next, always, eventually, always-for, within, and, or, implies, until}
 use Rattle.formula.specs.Text.{Sign, atom, sign, signsBy, signs}
-use Rattle.book_laws.specs.Write.{digits, decimal}
+use Rattle.number.specs.Digits.{digits, decimal}
 use Rattle.text.specs.Tape.{joined, signed}
 use Rattle.text.proofs.Tapes.{joined-append}
 use Rattle.spelling.specs.Spelling.{spell, spelled, operandText}
 use Rattle.spelling.proofs.Scans.{spelled-append}
-use Rattle.lines.specs.Line.{line}
+use Rattle.listing_line.specs.Line.{line}
 
 -- ---- numbers
 digits-short : (k n : ℕ) → length (digits k n) ≤ k

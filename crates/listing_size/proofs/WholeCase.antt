@@ -21,14 +21,14 @@ use Rattle.liveness.specs.Split as split
 use Rattle.liveness.specs.Text.{skeletonText}
 use Rattle.meaning.specs.Alarm.{truth}
 use Rattle.meaning.specs.State.{unfailedStep, obligationStep, checkStep, joinedStep, step}
-use Rattle.book_laws.specs.Write.{digits}
+use Rattle.number.specs.Digits.{digits}
 use Rattle.text.specs.Tape.{joined, signed}
 use Rattle.spelling.specs.Spelling.{spelled}
-use Rattle.lines.specs.Line.{line}
-use Rattle.lines.specs.Node.{nodeLines}
-use Rattle.lines.specs.Rule as lines
-use Rattle.live_lines.specs.Live.{marksText, liveLine, oweLine, oweLines}
-use Rattle.rules.specs.Rules.{compiles, refusal, mon, firstBitOf, likeOf, firstBelow, compilingOf}
+use Rattle.listing_line.specs.Line.{line}
+use Rattle.listing_line.specs.Node.{nodeLines}
+use Rattle.listing_line.specs.Rule as lines
+use Rattle.listing_live.specs.Live.{marksText, liveLine, oweLine, oweLines}
+use Rattle.listing_rules.specs.Rules.{compiles, refusal, mon, firstBitOf, likeOf, firstBelow, compilingOf}
 use Rattle.listing_text.specs.Listing.{upto, nodesText, liveText, owesText, ruleText, rulesText, breaks, reportOf, reportsAt, reports, reportLine, reportLines, endLine, rulesListing, ruleAt, refusedLine, listing}
 use Rattle.listing_size.specs.Worked.{Lists, AllList, whole, others}
 

@@ -4,13 +4,14 @@ use mathlib.Core.Path.{_≡_}
 use mathlib.Core.List.{List}
 use Prim.Native.Nat.{ℕ, _+_, _*_, _≤_, _<_}
 use lib.ListN.{length, getD, take, drop}
+use Rattle.terms.specs.Limits.{bookRules}
 use Rattle.book.specs.Book.{Book, accepted, read}
-use Rattle.reader.specs.Tables.{Tables}
+use Rattle.reader.specs.Tables.{BookTables}
 use Rattle.reader.specs.Steps.{stepsFrom}
-use Rattle.rules.specs.Tabled.{Held}
+use Rattle.listing_rules.specs.Tabled.{Held}
 use Rattle.listing_text.specs.Listing.{ruleAt, rulesListing, listing}
 
-pub record Handed (text : List ℕ) (t : Tables) (rules steps-at : ℕ) : Type 0 where
+pub record Handed (text : List ℕ) (t : BookTables) (rules steps-at : ℕ) : Type 0 where
   pub book : Book
   pub is : read text ≡ accepted book
   pub rules-is : rules ≡ length (book .labels)
@@ -20,6 +21,6 @@ pub record Handed (text : List ℕ) (t : Tables) (rules steps-at : ℕ) : Type 0
   pub label : (r : ℕ) → r < rules → take (getD (t .lens) r 0) (drop (32 * r) (t .labels)) ≡ ruleAt book r .label
   pub in-label : (r : ℕ) → r < rules → 32 * r + getD (t .lens) r 0 ≤ 2048
   pub in-labels : 2048 ≤ length (t .labels)
-  pub in-lens : 64 ≤ length (t .lens)
+  pub in-lens : bookRules ≤ length (t .lens)
   -- the text's listing, by the rules and the steps from that place on
   pub lists : listing text ≡ rulesListing (ruleAt book) rules (stepsFrom text steps-at)

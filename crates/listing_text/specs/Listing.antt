@@ -9,20 +9,20 @@ use mathlib.Core.Option.{Option, none, some}
 use Prim.Native.Nat.{ℕ, zero, suc}
 use lib.IntN.{ℤ}
 use lib.ListN.{length, getD}
-use Rattle.number.specs.Number.{pick}
+use Rattle.terms.specs.Choice.{pick}
 use Rattle.formula.specs.Tree.{leaf}
 use Rattle.formula.specs.Formula.{Formula, var}
 use Rattle.formula.specs.Table.{ruleOf}
 use Rattle.meaning.specs.State.{State, Stepped, fresh, step, culprit, newlyFailed}
 use Rattle.liveness.specs.Split.{Obligation, Answer, none as no-split, parts, refused as split-refused, splitOf}
 use Rattle.book.specs.Book.{Book, StepLine, Outcome, accepted, refused, read}
-use Rattle.book_laws.specs.Write.{decimal}
+use Rattle.number.specs.Digits.{decimal}
 use Rattle.text.specs.Tape.{joined, signed}
-use Rattle.lines.specs.Line.{line}
-use Rattle.lines.specs.Node.{nodeLines}
-use Rattle.lines.specs.Rule.{ruleLine}
-use Rattle.live_lines.specs.Live.{liveLine, oweLines}
-use Rattle.rules.specs.Rules.{Rule, property, compiles, mon, compilingOf}
+use Rattle.listing_line.specs.Line.{line}
+use Rattle.listing_line.specs.Node.{nodeLines}
+use Rattle.listing_line.specs.Rule.{ruleLine}
+use Rattle.listing_live.specs.Live.{liveLine, oweLines}
+use Rattle.listing_rules.specs.Rules.{Rule, property, compiles, mon, compilingOf}
 
 -- the texts of 0 to n - 1, one behind the other
 unfoldable pub upto : (ℕ → List ℕ) → ℕ → List ℕ

@@ -1,5 +1,10 @@
 // The walks that come before a split: whether a formula has liveness, and the first refusal of its split.
 use formula::table::Walk;
+use terms::op::AND;
+use terms::op::EVENTUALLY;
+use terms::op::NEXT;
+use terms::op::NOT;
+use terms::op::UNTIL;
 ghost use Rattle.formula.specs.Table.{Placed};
 ghost use Rattle.liveness.specs.Judge.{Calm, Lives, Judged, Operand};
 
@@ -64,22 +69,22 @@ pub fn judge_top(ops: &[u8], nums: &[u64], i: usize) -> Top
     ensures { λ r. ⌜ Judged (now (ops .entry)) (now (nums .entry)) i r ⌝ }
 {
     let op = ops[i];
-    if op < 3 {
+    if op < NOT {
         return Top::Upto(i + 1);
     }
-    if op < 4 {
+    if op < NEXT {
         return judge_top(ops, nums, i + 1);
     }
-    if op == 6 {
+    if op == EVENTUALLY {
         return operand_at(ops, nums, i + 1, 20);
     }
-    if op < 9 {
+    if op < AND {
         if contains_liveness(ops, nums, i + 1) {
             return Top::Fault(22);
         }
         return Top::Fault(23);
     }
-    if op < 12 {
+    if op < UNTIL {
         let left = judge_top(ops, nums, i + 1);
         let Top::Upto(e) = left else {
             return left;

@@ -6,11 +6,12 @@ use mathlib.Core.Logic.{_⊎_, inl, inr, ⊎-elim, _↔_}
 use Prim.Native.Nat.{ℕ, zero, suc, _<_, min}
 use native.Mathlib.Omega.{arith}
 use lib.IntN.{ℤ, pos, negsuc}
+use Rattle.terms.specs.Choice.{pick}
 use Rattle.formula.proofs.Cases.{below-or, true-false}
 use Rattle.monitor.specs.Mon.{Check, range-check, delayed-check, obligation, Mon, check, And, Or}
 use Rattle.meaning.specs.Alarm.{Record, during, triggers, Alarm, First, NoneBelow}
 use Rattle.meaning.specs.Culprit.{minus-one, Blamed, Latest, Least, Joined, CheckCulprit, Culprit}
-use Rattle.meaning.specs.State.{State, checkCulprit, culprit, offered, least, pickCulprit, joinedStep, step, after}
+use Rattle.meaning.specs.State.{State, checkCulprit, culprit, offered, least, joinedStep, step, after}
 use Rattle.meaning.proofs.Steps.{and-left, and-right, or-left, or-right, answers, marked, obligation-kept}
 
 -- ---- at most one
@@ -95,11 +96,11 @@ module _ (M N : ℕ → Type 0) where
 
 -- ---- one more step of a joined node
 module _ (Rings : ℕ → Type 0) (Named : ℕ → ℕ → Type 0) (k : ℕ) (c new : ℤ) (least-new : Least (Named k) new) where
-  joined-first : (now : Bool) → (now ≡ true) ↔ Rings k → NoneBelow Rings k → c ≡ minus-one → Joined Rings Named (suc k) (pickCulprit now new c)
+  joined-first : (now : Bool) → (now ≡ true) ↔ Rings k → NoneBelow Rings k → c ≡ minus-one → Joined Rings Named (suc k) (pick now new c)
   joined-first true a h e = inr (k, omega arith, record { here = a .0 refl; not-before = h }, least-new)
   joined-first false a h e = inl (λ u z p. ⊎-elim (λ q. h u q p) (λ q. true-false (a .1 (subst Rings (omega arith) p)) refl) (below-or u k), e)
 
-  joined-step : (f now : Bool) → (f ≡ true) ↔ ((s : ℕ) × (s < k) × Rings s) → (now ≡ true) ↔ Rings k → Joined Rings Named k c → Joined Rings Named (suc k) (pickCulprit (bool.not f && now) new c)
+  joined-step : (f now : Bool) → (f ≡ true) ↔ ((s : ℕ) × (s < k) × Rings s) → (now ≡ true) ↔ Rings k → Joined Rings Named k c → Joined Rings Named (suc k) (pick (bool.not f && now) new c)
   joined-step true now m a (inl h) = let (s, z, p) = m .0 refl in absurd (h .0 s z p)
   joined-step false now m a (inl h) = joined-first now a (h .0) (h .1)
   joined-step true now m a (inr (s, z, h, l)) = inr (s, omega arith, h, l)

@@ -7,12 +7,13 @@ use Prim.Native.Nat.{ℕ, zero, suc, _-_, _≤_}
 use native.Mathlib.Omega.{arith}
 use lib.IntN.{ℤ, pos, negsuc}
 use borrow.Author.Tests.{eqb-true, eqb-false, eq-eqb, not-true}
+use Rattle.terms.specs.Choice.{pick}
 use Rattle.formula.proofs.Cases.{below-or, true-false}
 use Rattle.monitor.specs.declared.range.AnchorRange.{AnchorRange}
 use Rattle.monitor.specs.Range.{containsOf}
 use Rattle.monitor.specs.Mon.{Signal, Check, range-check, delayed-check, obligation, Mon, check, And, Or}
 use Rattle.meaning.specs.Alarm.{truth}
-use Rattle.meaning.specs.State.{DelayedState, ObligationState, JoinedState, CheckState, State, failed, culprit, freshObligation, freshCheck, fresh, opened, ticked, atOnce, unless, unfailedStep, obligationStep, offered, least, pickCulprit, Stepped, checkStep, joinedStep, step, newlyFailed, FromMinusOne, WellKept, CheckShaped, WellShaped}
+use Rattle.meaning.specs.State.{DelayedState, ObligationState, JoinedState, CheckState, State, failed, culprit, freshObligation, freshCheck, fresh, opened, ticked, atOnce, unless, unfailedStep, obligationStep, offered, least, Stepped, checkStep, joinedStep, step, newlyFailed, FromMinusOne, WellKept, CheckShaped, WellShaped}
 use Rattle.meaning.specs.Meaning.{Ticks, Closes, Opens}
 use Rattle.meaning.proofs.Truths.{and-true, true-and, true-or-left, true-or-right, false-not}
 use Rattle.meaning.proofs.Windows.{obligation-failed, obligation-open-body, obligation-open-without, obligation-opens, obligation-opens-body, obligation-zero-fails, obligation-zero-body, obligation-zero-idle}
@@ -25,7 +26,7 @@ least-from (pos a) (negsuc b) = tt
 least-from (negsuc a) (pos b) = tt
 least-from (negsuc a) (negsuc b) = tt
 
-pick-from : (x : Bool) (c d : ℤ) → FromMinusOne c → FromMinusOne d → FromMinusOne (pickCulprit x c d)
+pick-from : (x : Bool) (c d : ℤ) → FromMinusOne c → FromMinusOne d → FromMinusOne (pick x c d)
 pick-from true c d f g = f
 pick-from false c d f g = g
 

@@ -23,13 +23,13 @@ pub data Call : Type 0 where
   accepted : (s w : ℕ) → Call
 
 -- a refused call leaves no trace
-abbrev pub stepCall : (m : Mon) → State m → Call → State m
-stepCall m st refused = st
-stepCall m st (accepted s w) = step m st s w .state
+abbrev pub afterCall : (m : Mon) → State m → Call → State m
+afterCall m st refused = st
+afterCall m st (accepted s w) = step m st s w .state
 
 unfoldable pub stepAll : (m : Mon) → State m → List Call → State m
 stepAll m st [] = st
-stepAll m st (c ∷ cs) = stepAll m (stepCall m st c) cs
+stepAll m st (c ∷ cs) = stepAll m (afterCall m st c) cs
 
 -- the step that a list of calls reports, if it reports
 unfoldable pub reportOf : (m : Mon) → State m → List Call → Option ℕ

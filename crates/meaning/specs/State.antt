@@ -10,6 +10,7 @@ use mathlib.Core.Path.{_≡_}
 use Prim.Native.Nat.{ℕ, zero, suc, _-_, _≤_, min}
 use lib.Dec.{eqb}
 use lib.IntN.{ℤ, pos, negsuc}
+use Rattle.terms.specs.Choice.{pick}
 use Rattle.monitor.specs.declared.range.AnchorRange.{AnchorRange}
 use Rattle.monitor.specs.Range.{containsOf}
 use Rattle.monitor.specs.Mon.{Signal, Check, range-check, delayed-check, obligation, Mon, check, And, Or}
@@ -127,10 +128,6 @@ least (pos a) (negsuc b) = pos a
 least (negsuc a) (pos b) = pos b
 least (negsuc a) (negsuc b) = minus-one
 
-abbrev pub pickCulprit : Bool → ℤ → ℤ → ℤ
-pickCulprit true a b = a
-pickCulprit false a b = b
-
 -- ---- one step
 pub record Stepped (S : Type 0) : Type 0 where
   pub state : S
@@ -154,7 +151,7 @@ joinedStep m n now l r st = record {
     left = l .state;
     right = r .state;
     failed = st .failed || now;
-    culprit = pickCulprit (bool.not (st .failed) && now) (least (offered (l .now) (culprit m (l .state))) (offered (r .now) (culprit n (r .state)))) (st .culprit);
+    culprit = pick (bool.not (st .failed) && now) (least (offered (l .now) (culprit m (l .state))) (offered (r .now) (culprit n (r .state)))) (st .culprit);
   };
   now = now;
 }

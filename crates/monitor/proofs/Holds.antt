@@ -1,4 +1,4 @@
--- The compiled rule that the tables hold: `compiledOf` gives a tree exactly where `Holds` says so, and `is_compiled` tests that.
+-- The compiled rule that the tables hold: `compiledOf` gives a tree exactly where `HoldsTree` says so, and `is_compiled` tests that.
 use mathlib.Core.Path.{_≡_, refl, sym, ap, ap₂, subst, _∙_}
 use mathlib.Core.Bool.{Bool, true, false, _&&_}
 use mathlib.Core.List.{List, _∷_}
@@ -21,7 +21,7 @@ use Rattle.monitor.specs.Mon.{Check, Mon}
 use Rattle.monitor.specs.Table.{Never, Join, Cell, cellAt, cellBy, cells, rowOf, fromTree, keepMon, limitedMon, monOf, monBy, compiledOf, anyCheck}
 
 module _ (ops nums : List ℕ) (first count : ℕ) (nodes : List ℕ) (nfirst ncount : ℕ) where
-  pub record Holds (f : Formula) (t : Tree Check Never Join) : Type 0 where
+  pub record HoldsTree (f : Formula) (t : Tree Check Never Join) : Type 0 where
     pub rule : ruleOf ops nums first count ≡ some f
     pub few : ncount ≤ 256
     pub in-nodes : 7 * (nfirst + ncount) ≤ length nodes
@@ -34,7 +34,7 @@ module _ (ops nums : List ℕ) (first count : ℕ) (nodes : List ℕ) (nfirst nc
   same-cells f e i zero = refl
   same-cells f e i (suc n) = ap₂ _∷_ (ap (λ (o : Option Formula). cellBy o first (rowOf nodes i)) e) (same-cells f e (i + 1) n)
 
-  pub held : (f : Formula) (t : Tree Check Never Join) → Holds f t → compiledOf ops nums first count nodes nfirst ncount ≡ some (fromTree t)
+  pub held : (f : Formula) (t : Tree Check Never Join) → HoldsTree f t → compiledOf ops nums first count nodes nfirst ncount ≡ some (fromTree t)
   unfolding compiledOf monOf
   held f t h =
       ap (λ (o : Option Formula). monBy o first nodes nfirst ncount) (h .rule)
@@ -56,11 +56,11 @@ module _ (ops nums : List ℕ) (first count : ℕ) (nodes : List ℕ) (nfirst nc
       let (b, p) = keep-inv (leb (depth t) 64) (some (fromTree t)) m e in
       (t, refl, leb-true _ _ b, sym (some-inj p))
 
-  pub held-inv : (m : Mon) → compiledOf ops nums first count nodes nfirst ncount ≡ some m → (f : Formula) × (t : Tree Check Never Join) × Holds f t × (m ≡ fromTree t)
+  pub held-inv : (m : Mon) → compiledOf ops nums first count nodes nfirst ncount ≡ some m → (f : Formula) × (t : Tree Check Never Join) × HoldsTree f t × (m ≡ fromTree t)
   unfolding compiledOf monOf
   held-inv m e = go (ruleOf ops nums first count) refl e
     where
-      go : (o : Option Formula) → ruleOf ops nums first count ≡ o → monBy o first nodes nfirst ncount ≡ some m → (f : Formula) × (t : Tree Check Never Join) × Holds f t × (m ≡ fromTree t)
+      go : (o : Option Formula) → ruleOf ops nums first count ≡ o → monBy o first nodes nfirst ncount ≡ some m → (f : Formula) × (t : Tree Check Never Join) × HoldsTree f t × (m ≡ fromTree t)
       go none r e = none-some e
       go (some f) r e =
           let (b, p) = keep-inv (leb ncount 256 && leb (7 * (nfirst + ncount)) (length nodes)) _ m e in
@@ -69,7 +69,7 @@ module _ (ops nums : List ℕ) (first count : ℕ) (nodes : List ℕ) (nfirst nc
           let (s, z) = tree-spells (cells ops nums first count nodes) nfirst ncount t (ap treeOf (same-cells f r nfirst ncount) ∙ o) in
           (f, t, record { rule = r; few = leb-true _ _ c; in-nodes = leb-true _ _ d; spells = s; covers = z; shallow = w }, q)
 
-  none-held : ((f : Formula) (t : Tree Check Never Join) → Holds f t → ⊥) → false ≡ isSome (compiledOf ops nums first count nodes nfirst ncount)
+  none-held : ((f : Formula) (t : Tree Check Never Join) → HoldsTree f t → ⊥) → false ≡ isSome (compiledOf ops nums first count nodes nfirst ncount)
   none-held h = go (compiledOf ops nums first count nodes nfirst ncount) refl
     where
       go : (o : Option Mon) → compiledOf ops nums first count nodes nfirst ncount ≡ o → false ≡ isSome o

@@ -12,6 +12,7 @@ use lib.Seq.{sets, length-sets}
 use borrow.Author.Tests.{eq-eqb, ne-eqb, lt-ltb, le-ltb}
 use mir.Syntax.{w64}
 use mir.Val.{Fits}
+use Rattle.terms.specs.Choice.{pick}
 use Rattle.monitor.specs.declared.range.End.{End}
 use Rattle.monitor.specs.declared.range.End.the-variants.{Step, Open}
 use Rattle.monitor.specs.declared.range.AnchorRange.{AnchorRange}
@@ -22,14 +23,14 @@ use Rattle.monitor.specs.declared.node.MonNode.the-variants.{RangeCheck,
 use Rattle.monitor.specs.declared.node.Row.{Row}
 use Rattle.monitor.specs.declared.node.Row.the-variants.{Node, Unknown}
 use Rattle.monitor.specs.Mon.{exprNumber, hasLast, lastOf, row, joinRow, nodeRow}
-use Rattle.monitor.specs.Table.{Numbered, NodeNumbered, pickExpr, pickEnd, pickRow, exprFrom, rangeFrom, formAt, cell, rowOf}
+use Rattle.monitor.specs.Table.{Numbered, NodeNumbered, exprFrom, rangeFrom, formAt, cell, rowOf}
 
 -- ---- numbers of a row
 pub expr-zero : (n : ℕ) → n ≡ 0 → True ≡ exprFrom n
-expr-zero n h = sym (ap (λ (b : Bool). pickExpr b True (At (n - 1))) (eq-eqb n 0 h))
+expr-zero n h = sym (ap (λ (b : Bool). pick b True (At (n - 1))) (eq-eqb n 0 h))
 
 pub expr-some : (n : ℕ) → (n ≡ 0 → ⊥) → At (n - 1) ≡ exprFrom n
-expr-some n h = sym (ap (λ (b : Bool). pickExpr b True (At (n - 1))) (ne-eqb n 0 h))
+expr-some n h = sym (ap (λ (b : Bool). pick b True (At (n - 1))) (ne-eqb n 0 h))
 
 pub number-fits : (e : SignalExpr) (p : ℕ) → Numbered e → e ≡ At p → Fits w64 (p + 1)
 number-fits e p h q = record { fits = subst Numbered q h }
@@ -38,10 +39,10 @@ pub number-at : (e : SignalExpr) (p : ℕ) → e ≡ At p → p + 1 ≡ exprNumb
 number-at e p q = sym (ap exprNumber q)
 
 pub range-open : (from has to : ℕ) → has ≡ 0 → _≡_ {A = AnchorRange} (record { from = from; to = Open }) (rangeFrom from has to)
-range-open from has to h = λ i. record { from = from; to = sym (ap (λ (b : Bool). pickEnd b Open (Step to)) (eq-eqb has 0 h)) i }
+range-open from has to h = λ i. record { from = from; to = sym (ap (λ (b : Bool). pick b Open (Step to)) (eq-eqb has 0 h)) i }
 
 pub range-step : (from has to : ℕ) → (has ≡ 0 → ⊥) → _≡_ {A = AnchorRange} (record { from = from; to = Step to }) (rangeFrom from has to)
-range-step from has to h = λ i. record { from = from; to = sym (ap (λ (b : Bool). pickEnd b Open (Step to)) (ne-eqb has 0 h)) i }
+range-step from has to h = λ i. record { from = from; to = sym (ap (λ (b : Bool). pick b Open (Step to)) (ne-eqb has 0 h)) i }
 
 -- ---- seven stores
 module _ (l : List ℕ) (i a b c d e f g h k : ℕ) where

@@ -8,6 +8,7 @@ use native.Mathlib.Omega.{arith}
 use lib.Dec.{leb}
 use lib.ListN.{length}
 use borrow.Author.Tests.{le-leb, lt-leb, leb-true}
+use Rattle.terms.specs.Choice.{pick}
 use Rattle.formula.specs.Tree.{Tree, leaf, one, two, Token, leaf-of, one-of, two-of, unknown, treeOf, size, depth, all}
 use Rattle.formula.specs.Spells.{run, Spells}
 use Rattle.formula.specs.Formula.{Formula}
@@ -32,7 +33,7 @@ use Rattle.monitor.specs.declared.table.Kind.{Kind}
 use Rattle.monitor.specs.declared.table.Kind.the-variants.{Check as Check′, Joined, Unknown as Unknown′}
 use Rattle.monitor.specs.Mon.{Signal, always-true, at, Check, delayed-check, obligation, Mon}
 use Rattle.monitor.specs.Table.{rowOf, subAt, keepPure, keepSignal, signalOf, signalBy, Never, Join, Cell, checked, cellOf, cellAt, cellBy, cells, fromTree, keepMon, limitedMon, monOf, monBy, compiledOf, kindOf, anyCheck}
-use Rattle.monitor.proofs.Parts.{Part, part-at, no-part}
+use Rattle.monitor.proofs.Parts.{FormulaPart, part-at, no-part}
 
 -- ---- signals
 module _ (ops nums : List ℕ) (first count p : ℕ) (u : IsRule ops nums first count) where
@@ -49,7 +50,7 @@ module _ (ops nums : List ℕ) (first count p : ℕ) (u : IsRule ops nums first 
   past-rule g h = sym (ap isSome (by-rule (At p) ∙ ap₂ (λ (b : Bool) (o : Option Formula). keepSignal b (keepPure p o)) (le-leb first p g) (no-part (u .formula) (p - first) (omega (arith, rule .covers)))))
 
   module _ (g : first ≤ p) (h : p - first < count) where
-    part : Part (nodeAt ops nums) first (u .formula) (p - first)
+    part : FormulaPart (nodeAt ops nums) first (u .formula) (p - first)
     part = part-at (nodeAt ops nums) first (u .formula) (p - first) (rule .spells) (omega (arith, rule .covers))
 
     there : Spells (nodeAt ops nums) p (part .part)
@@ -82,32 +83,23 @@ pub at-signal : (o : Option Formula) (first p : ℕ) (e : SignalExpr) (b : Bool)
 at-signal o first p e b h q = q ∙ sym (ap (λ (x : SignalExpr). isSome (signalBy o first x)) h)
 
 -- ---- one row
-pick : Bool → Kind → Kind → Kind
-pick true a b = a
-pick false a b = b
-
 one-signal : (x : Option Signal) (k : Signal → Cell) → ((y : Signal) → kindOf (k y) ≡ Check′) → kindOf (checked k x) ≡ pick (isSome x) Check′ Unknown′
-unfolding pick
 one-signal none k h = refl
 one-signal (some y) k h = h y
 
 two-signals : (x y : Option Signal) (k : Signal → Signal → Cell) → ((a b : Signal) → kindOf (k a b) ≡ Check′) → kindOf (checked (λ a. checked (λ b. k a b) y) x) ≡ pick (isSome x) (pick (isSome y) Check′ Unknown′) Unknown′
-unfolding pick
 two-signals none y k h = refl
 two-signals (some a) y k h = one-signal y (λ b. k a b) (λ b. h a b)
 
 kind-range : (o : Option Formula) (first : ℕ) (s : SignalExpr) (r : AnchorRange) → kindOf (cellBy o first (Node (RangeCheck s r))) ≡ pick (isSome (signalBy o first s)) Check′ Unknown′
-unfolding pick
 kind-range none first s r = refl
 kind-range (some f) first s r = one-signal (signalOf f first s) _ (λ y. refl)
 
 kind-delayed : (o : Option Formula) (first : ℕ) (s t : SignalExpr) (r : AnchorRange) → kindOf (cellBy o first (Node (DelayedCheck s t r))) ≡ pick (isSome (signalBy o first s)) (pick (isSome (signalBy o first t)) Check′ Unknown′) Unknown′
-unfolding pick
 kind-delayed none first s t r = refl
 kind-delayed (some f) first s t r = two-signals (signalOf f first s) (signalOf f first t) (λ a b. leaf-of (delayed-check a b r)) (λ a b. refl)
 
 kind-owed : (o : Option Formula) (first b : ℕ) (s t : SignalExpr) (r : AnchorRange) → kindOf (cellBy o first (Node (Obligation b s t r))) ≡ pick (isSome (signalBy o first s)) (pick (isSome (signalBy o first t)) Check′ Unknown′) Unknown′
-unfolding pick
 kind-owed none first b s t r = refl
 kind-owed (some f) first b s t r = two-signals (signalOf f first s) (signalOf f first t) (λ x y. leaf-of (obligation b x y r)) (λ x y. refl)
 
@@ -117,20 +109,16 @@ module _ (o : Option Formula) (first : ℕ) (n : MonNode) where
     by-one = ap (λ (x : MonNode). kindOf (cellBy o first (Node x))) e ∙ kind-range o first s r ∙ ap (λ (x : Bool). pick x Check′ Unknown′) (sym p)
 
     pub range-known : b ≡ true → Check′ ≡ kindOf (cellBy o first (Node n))
-    unfolding pick
     range-known q = sym (by-one ∙ ap (λ (x : Bool). pick x Check′ Unknown′) q)
 
     pub range-unknown : b ≡ false → Unknown′ ≡ kindOf (cellBy o first (Node n))
-    unfolding pick
     range-unknown q = sym (by-one ∙ ap (λ (x : Bool). pick x Check′ Unknown′) q)
 
   module _ (s t : SignalExpr) (h : kindOf (cellBy o first (Node n)) ≡ pick (isSome (signalBy o first s)) (pick (isSome (signalBy o first t)) Check′ Unknown′) Unknown′) (b c : Bool) (p : b ≡ isSome (signalBy o first s)) where
     first-unknown : b ≡ false → Unknown′ ≡ kindOf (cellBy o first (Node n))
-    unfolding pick
     first-unknown q = sym (h ∙ ap (λ (x : Bool). pick x (pick (isSome (signalBy o first t)) Check′ Unknown′) Unknown′) (sym p ∙ q))
 
     both-pick : c ≡ isSome (signalBy o first t) → b ≡ true → kindOf (cellBy o first (Node n)) ≡ pick c Check′ Unknown′
-    unfolding pick
     both-pick p′ q = h ∙ ap₂ (λ (x y : Bool). pick x (pick y Check′ Unknown′) Unknown′) (sym p ∙ q) (sym p′)
 
   module _ (s t : SignalExpr) (r : AnchorRange) (e : n ≡ DelayedCheck s t r) where
@@ -138,11 +126,9 @@ module _ (o : Option Formula) (first : ℕ) (n : MonNode) where
     delayed-pick = ap (λ (x : MonNode). kindOf (cellBy o first (Node x))) e ∙ kind-delayed o first s t r
 
     pub delayed-known : (b c : Bool) → b ≡ isSome (signalBy o first s) → c ≡ isSome (signalBy o first t) → b ≡ true → c ≡ true → Check′ ≡ kindOf (cellBy o first (Node n))
-    unfolding pick
     delayed-known b c p p′ q q′ = sym (both-pick s t delayed-pick b c p p′ q ∙ ap (λ (x : Bool). pick x Check′ Unknown′) q′)
 
     pub delayed-second : (b c : Bool) → b ≡ isSome (signalBy o first s) → c ≡ isSome (signalBy o first t) → b ≡ true → c ≡ false → Unknown′ ≡ kindOf (cellBy o first (Node n))
-    unfolding pick
     delayed-second b c p p′ q q′ = sym (both-pick s t delayed-pick b c p p′ q ∙ ap (λ (x : Bool). pick x Check′ Unknown′) q′)
 
     pub delayed-first : (b : Bool) → b ≡ isSome (signalBy o first s) → b ≡ false → Unknown′ ≡ kindOf (cellBy o first (Node n))
@@ -153,11 +139,9 @@ module _ (o : Option Formula) (first : ℕ) (n : MonNode) where
     owed-pick = ap (λ (x : MonNode). kindOf (cellBy o first (Node x))) e ∙ kind-owed o first k s t r
 
     pub owed-known : (b c : Bool) → b ≡ isSome (signalBy o first s) → c ≡ isSome (signalBy o first t) → b ≡ true → c ≡ true → Check′ ≡ kindOf (cellBy o first (Node n))
-    unfolding pick
     owed-known b c p p′ q q′ = sym (both-pick s t owed-pick b c p p′ q ∙ ap (λ (x : Bool). pick x Check′ Unknown′) q′)
 
     pub owed-second : (b c : Bool) → b ≡ isSome (signalBy o first s) → c ≡ isSome (signalBy o first t) → b ≡ true → c ≡ false → Unknown′ ≡ kindOf (cellBy o first (Node n))
-    unfolding pick
     owed-second b c p p′ q q′ = sym (both-pick s t owed-pick b c p p′ q ∙ ap (λ (x : Bool). pick x Check′ Unknown′) q′)
 
     pub owed-first : (b : Bool) → b ≡ isSome (signalBy o first s) → b ≡ false → Unknown′ ≡ kindOf (cellBy o first (Node n))

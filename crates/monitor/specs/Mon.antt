@@ -3,6 +3,7 @@ use mathlib.Core.Bool.{Bool, true, false}
 use mathlib.Core.List.{List, [], _∷_, _++_}
 use Prim.Native.Nat.{ℕ, _+_}
 use lib.Dec.{ltb}
+use Rattle.terms.specs.Choice.{pick}
 use Rattle.formula.specs.Formula.{Formula}
 use Rattle.monitor.specs.declared.range.End.{End}
 use Rattle.monitor.specs.declared.range.End.the-variants.{Step, Open}
@@ -65,12 +66,8 @@ nodeRow AndNode = joinRow 3
 nodeRow OrNode = joinRow 4
 
 -- the node that a word joins its parts by: up to 9 it is and, past that or
-abbrev pub pickNode : Bool → MonNode → MonNode → MonNode
-pickNode true a b = a
-pickNode false a b = b
-
 abbrev pub joinNode : ℕ → MonNode
-joinNode op = pickNode (ltb op 10) AndNode OrNode
+joinNode op = pick (ltb op 10) AndNode OrNode
 
 -- a check as the code holds it: its signals by their places
 abbrev pub exprOf : Signal → SignalExpr

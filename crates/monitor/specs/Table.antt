@@ -11,6 +11,8 @@ use mathlib.Core.Option.{Option, none, some}
 use Prim.Native.Nat.{ℕ, zero, suc, _+_, _-_, _*_, _<_, _^_}
 use lib.Dec.{leb, ltb, eqb}
 use lib.ListN.{length, getD}
+use Rattle.terms.specs.Limits.{deepest, ruleNodes}
+use Rattle.terms.specs.Choice.{pick}
 use Rattle.formula.specs.Tree.{Tree, leaf, one, two, Token, leaf-of, one-of, two-of, unknown, treeOf, size, depth}
 use Rattle.formula.specs.Spells.{run}
 use Rattle.formula.specs.Formula.{Formula}
@@ -42,23 +44,11 @@ NodeNumbered (Obligation b s t r) = Numbered s × Numbered t
 NodeNumbered AndNode = Numbered True × Numbered True
 NodeNumbered OrNode = Numbered True × Numbered True
 
-abbrev pub pickExpr : Bool → SignalExpr → SignalExpr → SignalExpr
-pickExpr true a b = a
-pickExpr false a b = b
-
-abbrev pub pickEnd : Bool → End → End → End
-pickEnd true a b = a
-pickEnd false a b = b
-
-abbrev pub pickRow : Bool → Row → Row → Row
-pickRow true a b = a
-pickRow false a b = b
-
 abbrev pub exprFrom : ℕ → SignalExpr
-exprFrom n = pickExpr (eqb n 0) True (At (n - 1))
+exprFrom n = pick (eqb n 0) True (At (n - 1))
 
 abbrev pub rangeFrom : ℕ → ℕ → ℕ → AnchorRange
-rangeFrom from has to = record { from = from; to = pickEnd (eqb has 0) Open (Step to) }
+rangeFrom from has to = record { from = from; to = pick (eqb has 0) Open (Step to) }
 
 -- the form of row i, and the number at column j behind it
 abbrev pub formAt : List ℕ → ℕ → ℕ
@@ -73,17 +63,13 @@ rowOf nodes i =
     let r = rangeFrom (cell nodes i 2) (cell nodes i 3) (cell nodes i 4) in
     let s = exprFrom (cell nodes i 5) in
     let t = exprFrom (cell nodes i 6) in
-    pickRow (ltb form 1) (Node (RangeCheck s r))
-    (pickRow (ltb form 2) (Node (DelayedCheck s t r))
-    (pickRow (ltb form 3) (Node (Obligation (cell nodes i 1) s t r))
-    (pickRow (ltb form 4) (Node AndNode)
-    (pickRow (ltb form 5) (Node OrNode) Unknown))))
+    pick (ltb form 1) (Node (RangeCheck s r))
+    (pick (ltb form 2) (Node (DelayedCheck s t r))
+    (pick (ltb form 3) (Node (Obligation (cell nodes i 1) s t r))
+    (pick (ltb form 4) (Node AndNode)
+    (pick (ltb form 5) (Node OrNode) Unknown))))
 
 -- ---- the signals
-abbrev pub pickFormula : Bool → Option Formula → Option Formula → Option Formula
-pickFormula true a b = a
-pickFormula false a b = b
-
 -- the part of a formula whose node is number k in prefix order
 unfoldable pub subAt : Formula → ℕ → Option Formula
 subAt (leaf a) zero = some (leaf a)
@@ -91,7 +77,7 @@ subAt (leaf a) (suc k) = none
 subAt (one o f) zero = some (one o f)
 subAt (one o f) (suc k) = subAt f k
 subAt (two o l r) zero = some (two o l r)
-subAt (two o l r) (suc k) = pickFormula (ltb k (size l)) (subAt l k) (subAt r (k - size l))
+subAt (two o l r) (suc k) = pick (ltb k (size l)) (subAt l k) (subAt r (k - size l))
 
 abbrev pub keepPure : ℕ → Option Formula → Option Signal
 keepPure p none = none
@@ -149,11 +135,11 @@ keepMon false m = none
 
 abbrev pub limitedMon : Option (Tree Check Never Join) → Option Mon
 limitedMon none = none
-limitedMon (some t) = keepMon (leb (depth t) 64) (some (fromTree t))
+limitedMon (some t) = keepMon (leb (depth t) deepest) (some (fromTree t))
 
 unfoldable pub monOf : Formula → ℕ → List ℕ → ℕ → ℕ → Option Mon
 monOf f first nodes nfirst ncount =
-    keepMon (leb ncount 256 && leb (7 * (nfirst + ncount)) (length nodes))
+    keepMon (leb ncount ruleNodes && leb (7 * (nfirst + ncount)) (length nodes))
     (limitedMon (treeOf (run (cellAt f first nodes) nfirst ncount)))
 
 -- ---- the two tables together: the rule's formula, and the compiled rule over it

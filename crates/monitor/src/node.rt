@@ -1,6 +1,11 @@
 // Monitor nodes, and the flat table that holds them: seven numbers a node, in prefix order.
 use crate::range::AnchorRange;
 use crate::range::End;
+use terms::form::AND;
+use terms::form::DELAYED;
+use terms::form::OBLIGATION;
+use terms::form::OR;
+use terms::form::RANGE;
 ghost use mathlib.Core.Path.{_≡_};
 ghost use Prim.Native.Nat.{_+_, _*_, _≤_};
 ghost use lib.ListN.{length};
@@ -95,7 +100,7 @@ pub fn put_node(out: &mut [u64], at: usize, node: MonNode)
 {
     match node {
         MonNode::RangeCheck { expr, range } => {
-            put_row(out, at, 0, 0, range, expr_number(expr), 0);
+            put_row(out, at, RANGE, 0, range, expr_number(expr), 0);
         }
         MonNode::DelayedCheck {
             antecedent,
@@ -104,7 +109,7 @@ pub fn put_node(out: &mut [u64], at: usize, node: MonNode)
         } => {
             let s = expr_number(antecedent);
             let t = expr_number(consequent);
-            put_row(out, at, 1, 0, range, s, t);
+            put_row(out, at, DELAYED, 0, range, s, t);
         }
         MonNode::Obligation {
             bound,
@@ -114,13 +119,13 @@ pub fn put_node(out: &mut [u64], at: usize, node: MonNode)
         } => {
             let s = expr_number(trigger);
             let t = expr_number(body);
-            put_row(out, at, 2, bound, range, s, t);
+            put_row(out, at, OBLIGATION, bound, range, s, t);
         }
         MonNode::And => {
-            put_row(out, at, 3, 0, none(), 0, 0);
+            put_row(out, at, AND, 0, none(), 0, 0);
         }
         MonNode::Or => {
-            put_row(out, at, 4, 0, none(), 0, 0);
+            put_row(out, at, OR, 0, none(), 0, 0);
         }
     }
 }
@@ -177,11 +182,11 @@ pub fn row_at(nodes: &[u64], i: usize) -> Row
     }
     let range = range_from(nodes[k + 2], nodes[k + 3], nodes[k + 4]);
     let s = expr_from(nodes[k + 5]);
-    if form < 1 {
+    if form < DELAYED {
         return Row::Node(MonNode::RangeCheck { expr: s, range });
     }
     let t = expr_from(nodes[k + 6]);
-    if form < 2 {
+    if form < OBLIGATION {
         return Row::Node(MonNode::DelayedCheck {
             antecedent: s,
             consequent: t,

@@ -6,6 +6,8 @@ use crate::node::row_at;
 use formula::signal::pure_at;
 use formula::table::Walk;
 use formula::table::is_rule;
+use terms::limit::DEEPEST;
+use terms::limit::RULE_NODES;
 ghost use mathlib.Core.Path.{_≡_};
 ghost use Prim.Native.Nat.{_+_, _*_, _≤_};
 ghost use lib.ListN.{length};
@@ -171,7 +173,7 @@ fn has_nodes(
     requires { ⌜ IsRule (now ops) (now nums) first count ⌝ }
     ensures { λ r. ⌜ r ≡ isSome (compiledOf (now (ops .entry)) (now (nums .entry)) first count (now (nodes .entry)) nfirst ncount) ⌝ }
 {
-    if 256 < ncount {
+    if RULE_NODES < ncount {
         return false;
     }
     let rows = nodes.len() / 7;
@@ -182,7 +184,7 @@ fn has_nodes(
         return false;
     }
     let end = nfirst + ncount;
-    let Walk::Upto(e) = nodes_at(ops, nums, first, count, nodes, nfirst, end, 64) else {
+    let Walk::Upto(e) = nodes_at(ops, nums, first, count, nodes, nfirst, end, DEEPEST) else {
         return false;
     };
     if e == end {

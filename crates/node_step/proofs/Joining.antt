@@ -9,7 +9,8 @@ use lib.ListN.{length}
 use mir.Syntax.{w64}
 use mir.Val.{Fits, SFits, toZ, ofZ}
 use mir.Facts.{toZ-ofZ}
-use Rattle.meaning.specs.State.{least, offered, pickCulprit}
+use Rattle.terms.specs.Choice.{pick}
+use Rattle.meaning.specs.State.{least, offered}
 use Rattle.node_step.specs.declared.state.NodeState.{NodeState}
 use Rattle.node_step.specs.Memory.{Memory, get, put, Inside}
 use Rattle.node_step.specs.Joined.{joinedNow, joinedOf, PairReady, Finished}
@@ -39,7 +40,7 @@ module _ (st : NodeState) (now left : Bool) (a : NodeState) (right : Bool) (b : 
     held = st .held;
     remaining = st .remaining;
     failed = sym (ap (λ (x : Bool). x || now) g ∙ sym g) j;
-    culprit = sym (ap (λ (x : Bool). pickCulprit (bool.not x && now) (least (offered left (a .culprit)) (offered right (b .culprit))) (st .culprit)) g) j;
+    culprit = sym (ap (λ (x : Bool). pick (bool.not x && now) (least (offered left (a .culprit)) (offered right (b .culprit))) (st .culprit)) g) j;
   }
 
   pub joined-quiet : now ≡ false → st ≡ joinedOf st now left a right b
@@ -47,10 +48,10 @@ module _ (st : NodeState) (now left : Bool) (a : NodeState) (right : Bool) (b : 
     held = st .held;
     remaining = st .remaining;
     failed = sym (ap (λ (x : Bool). st .failed || x) n ∙ or-false (st .failed)) j;
-    culprit = sym (ap (λ (x : Bool). pickCulprit (bool.not (st .failed) && x) (least (offered left (a .culprit)) (offered right (b .culprit))) (st .culprit)) n ∙ none (st .failed) _) j;
+    culprit = sym (ap (λ (x : Bool). pick (bool.not (st .failed) && x) (least (offered left (a .culprit)) (offered right (b .culprit))) (st .culprit)) n ∙ none (st .failed) _) j;
   }
     where
-      none : (x : Bool) (c : ℤ) → pickCulprit (bool.not x && false) c (st .culprit) ≡ st .culprit
+      none : (x : Bool) (c : ℤ) → pick (bool.not x && false) c (st .culprit) ≡ st .culprit
       none true c = refl
       none false c = refl
 
@@ -61,7 +62,7 @@ module _ (st : NodeState) (now left : Bool) (a : NodeState) (right : Bool) (b : 
         held = st .held;
         remaining = st .remaining;
         failed = sym (ap₂ (λ (u w : Bool). u || w) g n) j;
-        culprit = (toZ-ofZ f″ ∙ v ∙ sym (ap₂ (λ (u w : Bool). pickCulprit (bool.not u && w) (least (offered left (a .culprit)) (offered right (b .culprit))) (st .culprit)) g n)) j;
+        culprit = (toZ-ofZ f″ ∙ v ∙ sym (ap₂ (λ (u w : Bool). pick (bool.not u && w) (least (offered left (a .culprit)) (offered right (b .culprit))) (st .culprit)) g n)) j;
       }
 
 pub finish-all : (mem : Memory) (k mid : ℕ) (now left right : Bool) (st a b e : NodeState) (mem′ : Memory) → st ≡ get mem k → a ≡ get mem (k + 1) → b ≡ get mem mid → e ≡ joinedOf st now left a right b → mem′ ≡ put mem k e → Finished mem k mid now left right mem′

@@ -4,9 +4,10 @@ use mathlib.Core.Bool as bool
 use mathlib.Core.Path.{_≡_}
 use Prim.Native.Nat.{ℕ, _+_, _<_}
 use lib.IntN.{ℤ}
+use Rattle.terms.specs.Choice.{pick}
 use Rattle.monitor.specs.declared.node.MonNode.{MonNode}
 use Rattle.monitor.specs.declared.node.MonNode.the-variants.{RangeCheck, DelayedCheck, Obligation, And as AndNode, Or as OrNode}
-use Rattle.meaning.specs.State.{least, offered, pickCulprit}
+use Rattle.meaning.specs.State.{least, offered}
 use Rattle.node_step.specs.declared.state.NodeState.{NodeState}
 use Rattle.node_step.specs.declared.joined.Parts.{Parts}
 use Rattle.node_step.specs.declared.joined.Parts.the-variants.{Single, Joined}
@@ -31,7 +32,7 @@ joinedEntry f c e = record { held = e .held; remaining = e .remaining; failed = 
 -- a joined node's entry after its parts have stepped
 abbrev pub joinedOf : NodeState → Bool → Bool → NodeState → Bool → NodeState → NodeState
 joinedOf st now left a right b =
-    joinedEntry (st .failed || now) (pickCulprit (bool.not (st .failed) && now) (least (offered left (a .culprit)) (offered right (b .culprit))) (st .culprit)) st
+    joinedEntry (st .failed || now) (pick (bool.not (st .failed) && now) (least (offered left (a .culprit)) (offered right (b .culprit))) (st .culprit)) st
 
 -- ---- in the memory: node k, its left part behind it and its right part at `mid`
 pub record PairReady (mem : Memory) (k mid : ℕ) : Type 0 where

@@ -12,6 +12,9 @@ pub record Memory : Type 0 where
   pub failed : List Bool
   pub culprits : List ℤ
 
+abbrev pub entries : List Bool → List ℕ → List Bool → List ℤ → Memory
+entries held remaining failed culprits = record { held = held; remaining = remaining; failed = failed; culprits = culprits }
+
 abbrev pub get : Memory → ℕ → NodeState
 get mem i = record {
   held = getD (mem .held) i false;

@@ -6,7 +6,7 @@ use monitor::node::MonNode;
 use monitor::node::SignalExpr;
 use monitor::range::AnchorRange;
 ghost use mathlib.Core.Path.{_≡_};
-ghost use Rattle.node_step.specs.Memory.{Memory};
+ghost use Rattle.node_step.specs.Memory.{entries};
 ghost use Rattle.node_step.specs.Check.{Named, Says, Steppable, Checkable, CheckStepped, DelayedNow, Due, Openable, Opened, Tickable, Ticked, AtOnce, DoneAtOnce};
 
 // The truth of a signal.
@@ -34,8 +34,10 @@ fn step_range(
     s: u64,
     w: u64,
 ) -> bool
-    requires { ⌜ Checkable (now ops) (now nums) (MonNode.RangeCheck expr range) (record { held = now held; remaining = now remaining; failed = now failed; culprits = now culprits }) k s ⌝ }
-    ensures { λ r. ⌜ CheckStepped (now (ops .entry)) (now (nums .entry)) (MonNode.RangeCheck expr range) (record { held = now (held .entry); remaining = now (remaining .entry); failed = now (failed .entry); culprits = now (culprits .entry) }) k s w (record { held = now (held .exit); remaining = now (remaining .exit); failed = now (failed .exit); culprits = now (culprits .exit) }) r ⌝ }
+    requires { ⌜ Checkable (now ops) (now nums) (MonNode.RangeCheck expr range) (entries (now held) (now remaining) (now failed) (now culprits)) k s ⌝ }
+    ensures { λ r. ⌜ CheckStepped (now (ops .entry)) (now (nums .entry)) (MonNode.RangeCheck expr range)
+        (entries (now (held .entry)) (now (remaining .entry)) (now (failed .entry)) (now (culprits .entry))) k s w
+        (entries (now (held .exit)) (now (remaining .exit)) (now (failed .exit)) (now (culprits .exit))) r ⌝ }
 {
     if range.contains(s) {
         if truth_of(ops, nums, expr, w) {
@@ -89,8 +91,10 @@ fn step_delayed(
     s: u64,
     w: u64,
 ) -> bool
-    requires { ⌜ Checkable (now ops) (now nums) (MonNode.DelayedCheck antecedent consequent range) (record { held = now held; remaining = now remaining; failed = now failed; culprits = now culprits }) k s ⌝ }
-    ensures { λ r. ⌜ CheckStepped (now (ops .entry)) (now (nums .entry)) (MonNode.DelayedCheck antecedent consequent range) (record { held = now (held .entry); remaining = now (remaining .entry); failed = now (failed .entry); culprits = now (culprits .entry) }) k s w (record { held = now (held .exit); remaining = now (remaining .exit); failed = now (failed .exit); culprits = now (culprits .exit) }) r ⌝ }
+    requires { ⌜ Checkable (now ops) (now nums) (MonNode.DelayedCheck antecedent consequent range) (entries (now held) (now remaining) (now failed) (now culprits)) k s ⌝ }
+    ensures { λ r. ⌜ CheckStepped (now (ops .entry)) (now (nums .entry)) (MonNode.DelayedCheck antecedent consequent range)
+        (entries (now (held .entry)) (now (remaining .entry)) (now (failed .entry)) (now (culprits .entry))) k s w
+        (entries (now (held .exit)) (now (remaining .exit)) (now (failed .exit)) (now (culprits .exit))) r ⌝ }
 {
     let st = load(held, remaining, failed, culprits, k);
     let failing = delayed_now(ops, nums, antecedent, consequent, range, st, s, w);
@@ -126,8 +130,10 @@ fn open_window(
     s: u64,
     w: u64,
 ) -> bool
-    requires { ⌜ Openable (now ops) (now nums) trigger (record { held = now held; remaining = now remaining; failed = now failed; culprits = now culprits }) k s ⌝ }
-    ensures { λ r. ⌜ Opened (now (ops .entry)) (now (nums .entry)) bound trigger range (record { held = now (held .entry); remaining = now (remaining .entry); failed = now (failed .entry); culprits = now (culprits .entry) }) k s w (record { held = now (held .exit); remaining = now (remaining .exit); failed = now (failed .exit); culprits = now (culprits .exit) }) r ⌝ }
+    requires { ⌜ Openable (now ops) (now nums) trigger (entries (now held) (now remaining) (now failed) (now culprits)) k s ⌝ }
+    ensures { λ r. ⌜ Opened (now (ops .entry)) (now (nums .entry)) bound trigger range
+        (entries (now (held .entry)) (now (remaining .entry)) (now (failed .entry)) (now (culprits .entry))) k s w
+        (entries (now (held .exit)) (now (remaining .exit)) (now (failed .exit)) (now (culprits .exit))) r ⌝ }
 {
     if held[k] {
         return true;
@@ -153,8 +159,10 @@ fn tick(
     k: usize,
     w: u64,
 ) -> bool
-    requires { ⌜ Tickable (now ops) (now nums) body (record { held = now held; remaining = now remaining; failed = now failed; culprits = now culprits }) k ⌝ }
-    ensures { λ r. ⌜ Ticked (now (ops .entry)) (now (nums .entry)) body (record { held = now (held .entry); remaining = now (remaining .entry); failed = now (failed .entry); culprits = now (culprits .entry) }) k w (record { held = now (held .exit); remaining = now (remaining .exit); failed = now (failed .exit); culprits = now (culprits .exit) }) r ⌝ }
+    requires { ⌜ Tickable (now ops) (now nums) body (entries (now held) (now remaining) (now failed) (now culprits)) k ⌝ }
+    ensures { λ r. ⌜ Ticked (now (ops .entry)) (now (nums .entry)) body
+        (entries (now (held .entry)) (now (remaining .entry)) (now (failed .entry)) (now (culprits .entry))) k w
+        (entries (now (held .exit)) (now (remaining .exit)) (now (failed .exit)) (now (culprits .exit))) r ⌝ }
 {
     if truth_of(ops, nums, body, w) {
         held[k] = false;
@@ -182,8 +190,10 @@ fn step_at_once(
     s: u64,
     w: u64,
 ) -> bool
-    requires { ⌜ AtOnce (now ops) (now nums) trigger body (record { held = now held; remaining = now remaining; failed = now failed; culprits = now culprits }) k s ⌝ }
-    ensures { λ r. ⌜ DoneAtOnce (now (ops .entry)) (now (nums .entry)) trigger body range (record { held = now (held .entry); remaining = now (remaining .entry); failed = now (failed .entry); culprits = now (culprits .entry) }) k s w (record { held = now (held .exit); remaining = now (remaining .exit); failed = now (failed .exit); culprits = now (culprits .exit) }) r ⌝ }
+    requires { ⌜ AtOnce (now ops) (now nums) trigger body (entries (now held) (now remaining) (now failed) (now culprits)) k s ⌝ }
+    ensures { λ r. ⌜ DoneAtOnce (now (ops .entry)) (now (nums .entry)) trigger body range
+        (entries (now (held .entry)) (now (remaining .entry)) (now (failed .entry)) (now (culprits .entry))) k s w
+        (entries (now (held .exit)) (now (remaining .exit)) (now (failed .exit)) (now (culprits .exit))) r ⌝ }
 {
     if is_due(ops, nums, trigger, range, s, w) {
         if truth_of(ops, nums, body, w) {
@@ -211,8 +221,10 @@ fn step_obligation(
     s: u64,
     w: u64,
 ) -> bool
-    requires { ⌜ Checkable (now ops) (now nums) (MonNode.Obligation bound trigger body range) (record { held = now held; remaining = now remaining; failed = now failed; culprits = now culprits }) k s ⌝ }
-    ensures { λ r. ⌜ CheckStepped (now (ops .entry)) (now (nums .entry)) (MonNode.Obligation bound trigger body range) (record { held = now (held .entry); remaining = now (remaining .entry); failed = now (failed .entry); culprits = now (culprits .entry) }) k s w (record { held = now (held .exit); remaining = now (remaining .exit); failed = now (failed .exit); culprits = now (culprits .exit) }) r ⌝ }
+    requires { ⌜ Checkable (now ops) (now nums) (MonNode.Obligation bound trigger body range) (entries (now held) (now remaining) (now failed) (now culprits)) k s ⌝ }
+    ensures { λ r. ⌜ CheckStepped (now (ops .entry)) (now (nums .entry)) (MonNode.Obligation bound trigger body range)
+        (entries (now (held .entry)) (now (remaining .entry)) (now (failed .entry)) (now (culprits .entry))) k s w
+        (entries (now (held .exit)) (now (remaining .exit)) (now (failed .exit)) (now (culprits .exit))) r ⌝ }
 {
     if failed[k] {
         return true;
@@ -265,8 +277,10 @@ pub fn step_check(
     s: u64,
     w: u64,
 ) -> bool
-    requires { ⌜ Checkable (now ops) (now nums) node (record { held = now held; remaining = now remaining; failed = now failed; culprits = now culprits }) k s ⌝ }
-    ensures { λ r. ⌜ CheckStepped (now (ops .entry)) (now (nums .entry)) node (record { held = now (held .entry); remaining = now (remaining .entry); failed = now (failed .entry); culprits = now (culprits .entry) }) k s w (record { held = now (held .exit); remaining = now (remaining .exit); failed = now (failed .exit); culprits = now (culprits .exit) }) r ⌝ }
+    requires { ⌜ Checkable (now ops) (now nums) node (entries (now held) (now remaining) (now failed) (now culprits)) k s ⌝ }
+    ensures { λ r. ⌜ CheckStepped (now (ops .entry)) (now (nums .entry)) node
+        (entries (now (held .entry)) (now (remaining .entry)) (now (failed .entry)) (now (culprits .entry))) k s w
+        (entries (now (held .exit)) (now (remaining .exit)) (now (failed .exit)) (now (culprits .exit))) r ⌝ }
 {
     match node {
         MonNode::RangeCheck { expr, range } => {

@@ -4,10 +4,10 @@ use crate::state::load;
 use crate::state::store;
 use monitor::node::MonNode;
 ghost use mathlib.Core.Path.{_≡_};
-ghost use mathlib.Core.Bool.{Bool, true, false};
+ghost use mathlib.Core.Bool.{true, false};
 ghost use Prim.Native.Nat.{_+_, _<_};
 ghost use Rattle.meaning.specs.State.{least, offered};
-ghost use Rattle.node_step.specs.Memory.{Memory, get, put, Inside};
+ghost use Rattle.node_step.specs.Memory.{entries};
 ghost use Rattle.node_step.specs.Joined.{partsOf, joinedNow, joinedOf, PairReady, Finished};
 
 // How a node's parts are joined: not at all; or it fails with any of them, or with all of them.
@@ -119,8 +119,9 @@ pub fn finish(
     left: bool,
     right: bool,
 )
-    requires { ⌜ PairReady (record { held = now held; remaining = now remaining; failed = now failed; culprits = now culprits }) k mid ⌝ }
-    ensures { λ _. ⌜ Finished (record { held = now (held .entry); remaining = now (remaining .entry); failed = now (failed .entry); culprits = now (culprits .entry) }) k mid failing left right (record { held = now (held .exit); remaining = now (remaining .exit); failed = now (failed .exit); culprits = now (culprits .exit) }) ⌝ }
+    requires { ⌜ PairReady (entries (now held) (now remaining) (now failed) (now culprits)) k mid ⌝ }
+    ensures { λ _. ⌜ Finished (entries (now (held .entry)) (now (remaining .entry)) (now (failed .entry)) (now (culprits .entry))) k mid failing left
+        right (entries (now (held .exit)) (now (remaining .exit)) (now (failed .exit)) (now (culprits .exit))) ⌝ }
 {
     let st = load(held, remaining, failed, culprits, k);
     let a = load(held, remaining, failed, culprits, k + 1);

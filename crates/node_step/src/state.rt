@@ -1,8 +1,7 @@
 // A node's state in a monitor's memory: for each node a register, what remains of a window, whether it has failed, and its culprit.
 ghost use mathlib.Core.Path.{_≡_};
 ghost use Prim.Native.Nat.{_+_};
-ghost use lib.ListN.{length};
-ghost use Rattle.node_step.specs.Memory.{Memory, get, put, Inside};
+ghost use Rattle.node_step.specs.Memory.{Memory, get, put, Inside, entries};
 
 // `held`: a delayed check's remembered antecedent, or that an obligation's window is pending.
 pub struct NodeState {
@@ -20,8 +19,8 @@ pub fn load(
     culprits: &[i64],
     i: usize,
 ) -> NodeState
-    requires { ⌜ Inside (record { held = now held; remaining = now remaining; failed = now failed; culprits = now culprits }) (i + 1) ⌝ }
-    ensures { λ r. ⌜ r ≡ get (record { held = now (held .entry); remaining = now (remaining .entry); failed = now (failed .entry); culprits = now (culprits .entry) }) i ⌝ }
+    requires { ⌜ Inside (entries (now held) (now remaining) (now failed) (now culprits)) (i + 1) ⌝ }
+    ensures { λ r. ⌜ r ≡ get (entries (now (held .entry)) (now (remaining .entry)) (now (failed .entry)) (now (culprits .entry))) i ⌝ }
 {
     NodeState {
         held: held[i],
@@ -32,7 +31,7 @@ pub fn load(
 }
 
 // Stores the state of node i.
-pub fn store(
+pub(crate) fn store(
     held: &mut [bool],
     remaining: &mut [u64],
     failed: &mut [bool],
@@ -40,8 +39,9 @@ pub fn store(
     i: usize,
     state: NodeState,
 )
-    requires { ⌜ Inside (record { held = now held; remaining = now remaining; failed = now failed; culprits = now culprits }) (i + 1) ⌝ }
-    ensures { λ _. ⌜ _≡_ {A = Memory} (record { held = now (held .exit); remaining = now (remaining .exit); failed = now (failed .exit); culprits = now (culprits .exit) }) (put (record { held = now (held .entry); remaining = now (remaining .entry); failed = now (failed .entry); culprits = now (culprits .entry) }) i state) ⌝ }
+    requires { ⌜ Inside (entries (now held) (now remaining) (now failed) (now culprits)) (i + 1) ⌝ }
+    ensures { λ _. ⌜ _≡_ {A = Memory} (entries (now (held .exit)) (now (remaining .exit)) (now (failed .exit)) (now (culprits .exit)))
+        (put (entries (now (held .entry)) (now (remaining .entry)) (now (failed .entry)) (now (culprits .entry))) i state) ⌝ }
 {
     let h = state.held;
     let r = state.remaining;

@@ -11,7 +11,7 @@ use lib.Dec.{ltb, leb}
 use lib.ListN.{length, getD, set, take, length-map, List·getD-map}
 use lib.Seq.{length-take-le, getD-set-same, getD-set-other}
 use Rattle.node_table.specs.Node.{blank, nodeOf, opsOf, numsOf}
-use Rattle.node_table.specs.Columns.{within, lesser, endOf, endIf, Holds, front}
+use Rattle.node_table.specs.Columns.{within, lesser, endOf, endIf, HoldsColumn, front}
 use Rattle.node_table.specs.declared.FormulaNode.{FormulaNode}
 
 pub within-few : (n : ℕ) → n < 1024 → n ≡ within n
@@ -57,7 +57,7 @@ end-fits lent first count i h below = rw (le-leb (first + count) lent h) below
 
 -- a column that holds the entries before i and is given the one at i holds one more
 pub holds-next : (f : FormulaNode → ℕ) → f blank ≡ 0 → (ys : List FormulaNode) (xs : List ℕ) (from i : ℕ) → from ≤ i → i < length xs
-    → Holds xs (map f ys) from i → Holds (set xs i (f (nodeOf ys i))) (map f ys) from (i + 1)
+    → HoldsColumn xs (map f ys) from i → HoldsColumn (set xs i (f (nodeOf ys i))) (map f ys) from (i + 1)
 holds-next f z ys xs from i le lx h k above below = go (ltb k i) refl
   where
     a : ℕ

@@ -8,7 +8,8 @@ use borrow.Author.Tests.{le-leb, leb-true, ltb-false}
 use lib.Dec.{leb, ltb}
 use lib.ListN.{length, take, length-map}
 use lib.Seq.{length-take-le, getD-take}
-use Rattle.formula.specs.Table.{inTable, ruleOf, roomy, tablePlaces}
+use Rattle.terms.specs.Limits.{bookNodes}
+use Rattle.formula.specs.Table.{inTable, ruleOf, roomy}
 use Rattle.formula.proofs.Local.{Agree, rule-local}
 use Rattle.formula.proofs.Walks.{both-true}
 use Rattle.node_table.specs.Node.{opsOf, numsOf}
@@ -51,12 +52,12 @@ module _ (table : List FormulaNode) (first count : ℕ) (c : Columns) (u : Unpac
   holds-nums x h = ap (leb x) ns-length ∙ within-holds x (length table) h ∙ ap (leb x) (sym nums-length)
 
   pub own-room : roomy os ns ≡ roomy (opsOf table) (numsOf table)
-  own-room = ap (λ (t : Bool). t && leb tablePlaces (length ns)) (holds-ops 1024 (omega arith)) ∙ ap (λ (t : Bool). leb tablePlaces (length (opsOf table)) && t) (holds-nums 1024 (omega arith))
+  own-room = ap (λ (t : Bool). t && leb bookNodes (length ns)) (holds-ops 1024 (omega arith)) ∙ ap (λ (t : Bool). leb bookNodes (length (opsOf table)) && t) (holds-nums 1024 (omega arith))
 
   own-table : inTable os ns first count ≡ inTable (opsOf table) (numsOf table) first count
-  own-table = ap (λ (t : Bool). leb count 256 && t) (go (leb (first + count) tablePlaces) refl)
+  own-table = ap (λ (t : Bool). leb count 256 && t) (go (leb (first + count) bookNodes) refl)
     where
-      go : (t : Bool) → leb (first + count) tablePlaces ≡ t
+      go : (t : Bool) → leb (first + count) bookNodes ≡ t
           → (t && (leb (first + count) (length os) && leb (first + count) (length ns))) ≡ (t && (leb (first + count) (length (opsOf table)) && leb (first + count) (length (numsOf table))))
       go true e =
           let h : first + count ≤ 1024 = leb-true (first + count) 1024 e in
@@ -72,7 +73,7 @@ module _ (table : List FormulaNode) (first count : ℕ) (c : Columns) (u : Unpac
 
   in-lent : inTable os ns first count ≡ true → first + count ≤ c .count
   in-lent e =
-      let within-table : (leb (first + count) (length os) && leb (first + count) (length ns)) ≡ true = both-true (leb (first + count) tablePlaces) _ (both-true (leb count 256) _ e .1) .1 in
+      let within-table : (leb (first + count) (length os) && leb (first + count) (length ns)) ≡ true = both-true (leb (first + count) bookNodes) _ (both-true (leb count 256) _ e .1) .1 in
       subst (λ (k : ℕ). first + count ≤ k) (os-length ∙ sym (u .lent)) (leb-true (first + count) (length os) (both-true (leb (first + count) (length os)) _ within-table .0))
 
   pub own-rule : ruleOf os ns first count ≡ ruleOf (opsOf table) (numsOf table) first count

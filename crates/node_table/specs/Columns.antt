@@ -11,16 +11,17 @@ use mathlib.Core.Path.{_≡_}
 use Prim.Native.Nat.{ℕ, _+_, _≤_, _<_}
 use lib.Dec.{leb, ltb}
 use lib.ListN.{length, getD, take, drop}
+use Rattle.terms.specs.Limits.{bookNodes}
 use Rattle.node_table.specs.Node.{opsOf, numsOf}
 use Rattle.node_table.specs.declared.Columns.{Columns}
 use Rattle.node_table.specs.declared.FormulaNode.{FormulaNode}
 
 abbrev pub lesser : Bool → ℕ → ℕ
 lesser true n = n
-lesser false n = 1024
+lesser false n = bookNodes
 
 abbrev pub within : ℕ → ℕ
-within n = lesser (ltb n 1024) n
+within n = lesser (ltb n bookNodes) n
 
 abbrev pub endIf : Bool → ℕ → ℕ → ℕ
 endIf true first end = end
@@ -34,14 +35,14 @@ pub record Inside (c : Columns) : Type 0 where
   pub nums : c .count ≤ length (c .nums)
 
 -- a column's entries at the places [from, upto) are those of another list
-abbrev pub Holds : List ℕ → List ℕ → ℕ → ℕ → Type 0
-Holds xs ys from upto = (i : ℕ) → from ≤ i → i < upto → getD xs i 0 ≡ getD ys i 0
+abbrev pub HoldsColumn : List ℕ → List ℕ → ℕ → ℕ → Type 0
+HoldsColumn xs ys from upto = (i : ℕ) → from ≤ i → i < upto → getD xs i 0 ≡ getD ys i 0
 
 pub record Unpacked (table : List FormulaNode) (first count : ℕ) (c : Columns) : Type 0 where
   pub lent : c .count ≡ within (length table)
   pub inside : Inside c
-  pub ops : Holds (c .ops) (opsOf table) first (endOf (c .count) first count)
-  pub nums : Holds (c .nums) (numsOf table) first (endOf (c .count) first count)
+  pub ops : HoldsColumn (c .ops) (opsOf table) first (endOf (c .count) first count)
+  pub nums : HoldsColumn (c .nums) (numsOf table) first (endOf (c .count) first count)
 
 abbrev pub front : ℕ → List ℕ → List ℕ → List ℕ
 front n xs l = take n xs ++ drop n l

@@ -1,6 +1,7 @@
 // A formula table as a lent slice of node structs: `node_at` reads one node and `put_node` stores one, and nothing else touches a node. A rule's own
 // places are read into plain columns, and columns are stored in front of a table. The borrow checker covers no function that is lent such a slice, so
 // each is proved by hand. The entry points over such a table (crates `table_calls`, `table_read`, `table_step`) hand plain columns on to the core.
+use terms::limit::BOOK_NODES;
 ghost use mathlib.Core.Path.{_≡_};
 ghost use Prim.Native.Nat.{_+_, _≤_, _<_};
 ghost use lib.ListN.{length, set};
@@ -14,7 +15,7 @@ pub struct FormulaNode {
 }
 
 // The node at i.
-pub fn node_at(table: &[FormulaNode], i: usize) -> FormulaNode
+pub(crate) fn node_at(table: &[FormulaNode], i: usize) -> FormulaNode
     requires { ⌜ i < length (now table) ⌝ }
     ensures { λ r. ⌜ r ≡ nodeOf (now (table .entry)) i ⌝ }
 {
@@ -24,25 +25,25 @@ pub fn node_at(table: &[FormulaNode], i: usize) -> FormulaNode
 // A table in two columns: how many nodes there are, and the operations and numbers of those that were read or are to be stored.
 pub struct Columns {
     pub count: usize,
-    pub ops: [u8; 1024],
-    pub nums: [u64; 1024],
+    pub ops: [u8; BOOK_NODES],
+    pub nums: [u64; BOOK_NODES],
 }
 
 // Columns for the first 1,024 of `len` nodes.
 fn columns_for(len: usize) -> Columns
     ensures { λ r. ⌜ r .count ≡ within len ⌝ }
 {
-    if len < 1024 {
+    if len < BOOK_NODES {
         return Columns {
             count: len,
-            ops: [0; 1024],
-            nums: [0; 1024],
+            ops: [0; BOOK_NODES],
+            nums: [0; BOOK_NODES],
         };
     }
     Columns {
-        count: 1024,
-        ops: [0; 1024],
-        nums: [0; 1024],
+        count: BOOK_NODES,
+        ops: [0; BOOK_NODES],
+        nums: [0; BOOK_NODES],
     }
 }
 
@@ -82,7 +83,7 @@ pub fn unpack(table: &[FormulaNode], first: usize, count: usize) -> Columns
 }
 
 // Stores a node at i.
-pub fn put_node(table: &mut [FormulaNode], i: usize, node: FormulaNode)
+pub(crate) fn put_node(table: &mut [FormulaNode], i: usize, node: FormulaNode)
     requires { ⌜ i < length (now table) ⌝ }
     ensures { λ _. ⌜ now (table .exit) ≡ set (now (table .entry)) i node ⌝ }
 {

@@ -13,7 +13,8 @@ use mir.Val.{Fits}
 use lib.Dec.{ltb, eqb}
 use lib.ListN.{length, getD, drop, drop-of-length-le}
 use lib.Seq.{drop-cons}
-use Rattle.number.specs.Number.{pick, digitOf, below, places, valueIn, plain, decimalOf, hexOf, Digit}
+use Rattle.terms.specs.Choice.{pick}
+use Rattle.number.specs.Number.{digitOf, below, places, valueIn, plain, decimalOf, hexOf, Digit}
 use Rattle.number.specs.declared.Number.{Number}
 use Rattle.number.specs.declared.Number.the-variants.{Value, Wrong}
 

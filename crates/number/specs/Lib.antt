@@ -1,2 +1,3 @@
 -- What the numbers of a book are.
 pub mod Number
+pub mod Digits

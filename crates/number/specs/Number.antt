@@ -8,12 +8,9 @@ use mathlib.Core.List.{List, [], _∷_}
 use Prim.Native.Nat.{ℕ, _+_, _-_, _*_, _^_, _≤_}
 use lib.Dec.{leb, ltb, eqb}
 use lib.ListN.{length}
+use Rattle.terms.specs.Choice.{pick}
 use Rattle.number.specs.declared.Number.{Number}
 use Rattle.number.specs.declared.Number.the-variants.{Value, Wrong}
-
-abbrev pub pick {ℓ} : {A : Type ℓ} → Bool → A → A → A
-pick true a b = a
-pick false a b = b
 
 -- what a byte is worth as a digit: `0` to `9`, `a` to `f`; 16 where it is none
 unfoldable pub digitOf : ℕ → ℕ

@@ -13,9 +13,9 @@ use lib.ListN.{length, getD, set, length-append, length-set}
 use lib.Seq.{sets, length-sets, getD-set-same, getD-set-other, set-getD}
 use mir.Syntax.{w64}
 use mir.Val.{Fits}
+use Rattle.terms.specs.Choice.{pick}
 use Rattle.formula.proofs.Cases.{below-or}
-use Rattle.plan.specs.Width.{pick}
-use Rattle.plan.specs.Rows.{Summed, Part}
+use Rattle.plan.specs.Rows.{Summed, RowsPart}
 use Rattle.plan.specs.Book.{bitsBelow, properties, assumptions, firstBit, listed, kept, filledIn, isZero, partBits, Rowed, Chosen, Counted, Stored, Arranged}
 
 -- ---- one rule
@@ -46,7 +46,7 @@ module _ (kinds refusals nodes nfirsts ncounts : List ℕ) (r : ℕ) where
     }
 
     module _ (n : ℕ) (w : Rowed kinds refusals nodes nfirsts ncounts n) (l : r < n) where
-      pub part-of : Part nodes (getD nfirsts r 0) (getD ncounts r 0)
+      pub part-of : RowsPart nodes (getD nfirsts r 0) (getD ncounts r 0)
       part-of = w .parts r l e
 
       pub is-property : (b : ℕ) → getD kinds r 0 ≡ 0 → Summed nodes (getD nfirsts r 0) (getD ncounts r 0) b → Chosen (properties (isZero kinds) (isZero refusals)) (partBits nodes nfirsts ncounts) r b

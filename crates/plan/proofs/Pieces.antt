@@ -11,9 +11,10 @@ use mir.Syntax.{w64}
 use mir.Val.{Fits}
 use native.Mathlib.Nat.{add-zero, zero-add, suc-add, add-suc}
 use native.Mathlib.Numerals.{add-one}
+use Rattle.terms.specs.Choice.{pick}
 use Rattle.plan.specs.Width.{width}
 use Rattle.plan.specs.Layout.{nothing, register, owing, breadth, total, slotIn}
-use Rattle.plan.specs.Rows.{pickPiece, pieceOf, rowPiece, rowPieces, rowBits, Breadth, Summed, Part}
+use Rattle.plan.specs.Rows.{pieceOf, rowPiece, rowPieces, rowBits, Breadth, Summed, RowsPart}
 use Rattle.plan.specs.declared.layout.Piece.{Piece}
 use Rattle.plan.specs.declared.layout.Slot.{Slot}
 use Rattle.plan.proofs.Widths.{width-most}
@@ -51,7 +52,7 @@ small-owing (suc b) h =
 small-piece : (form bound : ℕ) → bound < 2 ^ 64 → Small (pieceOf form bound)
 small-piece form bound h = go (eqb form 1) (eqb form 2)
   where
-    go : (t u : Bool) → Small (pickPiece t register (pickPiece u (owing bound) nothing))
+    go : (t u : Bool) → Small (pick t register (pick u (owing bound) nothing))
     go true u = record { pends = omega arith; remains = omega arith; all = omega arith }
     go false true = small-owing bound h
     go false false = record { pends = omega arith; remains = omega arith; all = omega arith }
@@ -98,12 +99,12 @@ rows-get nodes i (suc n) (suc j) h = rows-get nodes (i + 1) n j (omega arith) �
 
 -- j rows are summed
 pub record Running (nodes : List ℕ) (i n sum j : ℕ) : Type 0 where
-  pub part : Part nodes i n
+  pub part : RowsPart nodes i n
   pub below : j ≤ n
   pub so-far : Summed nodes i j sum
 
 module _ (nodes : List ℕ) (i n : ℕ) where
-  pub running-none : Part nodes i n → Running nodes i n 0 0
+  pub running-none : RowsPart nodes i n → Running nodes i n 0 0
   unfolding rowPieces total
   running-none p = record { part = p; below = omega arith; so-far = record { is = refl; most = omega arith } }
 
@@ -132,8 +133,8 @@ module _ (nodes : List ℕ) (i n : ℕ) where
   running-all sum j r h = subst (λ (k : ℕ). Summed nodes i k sum) (omega (arith, r .below)) (r .so-far)
 
   -- ---- one slot
-  module _ (p : Part nodes i n) (j : ℕ) (h : j < n) where
-    pub part-below : Part nodes i j
+  module _ (p : RowsPart nodes i n) (j : ℕ) (h : j < n) where
+    pub part-below : RowsPart nodes i j
     part-below = record { few = omega (arith, p .few); inside = omega (arith, p .inside) }
 
     pub slot-in : 7 * (i + j) < length nodes

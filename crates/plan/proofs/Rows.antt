@@ -10,6 +10,7 @@ use native.Mathlib.Nat.{add-assoc}
 use borrow.Author.Tests.{leb-true, le-ltb, ne-eqb}
 use lib.Dec.{leb, ltb, eqb}
 use lib.ListN.{length, getD}
+use Rattle.terms.specs.Choice.{pick}
 use Rattle.formula.specs.Tree.{Tree, leaf, one, two, Token, leaf-of, one-of, two-of, unknown, treeOf, size, depth}
 use Rattle.formula.specs.Spells.{run, Spells}
 use Rattle.formula.specs.Formula.{Formula}
@@ -23,9 +24,9 @@ use Rattle.monitor.specs.declared.node.MonNode.the-variants.{RangeCheck, Delaye
 use Rattle.monitor.specs.declared.node.Row.{Row}
 use Rattle.monitor.specs.declared.node.Row.the-variants.{Node, Unknown}
 use Rattle.monitor.specs.Mon.{Signal, Check, range-check, delayed-check, obligation, Mon, check, And, Or}
-use Rattle.monitor.specs.Table.{formAt, cell, rowOf, rangeFrom, exprFrom, pickRow, signalOf, Never, Join, join-and, join-or, Cell, checked, cellOf, cellAt, fromTree, keepMon, limitedMon, monOf, monBy, compiledOf}
+use Rattle.monitor.specs.Table.{formAt, cell, rowOf, rangeFrom, exprFrom, signalOf, Never, Join, join-and, join-or, Cell, checked, cellOf, cellAt, fromTree, keepMon, limitedMon, monOf, monBy, compiledOf}
 use Rattle.plan.specs.Layout.{nothing, register, owing, checkPiece, pieces, total, bits}
-use Rattle.plan.specs.Rows.{pieceOf, rowPiece, rowPieces, rowBits, Part}
+use Rattle.plan.specs.Rows.{pieceOf, rowPiece, rowPieces, rowBits, RowsPart}
 use Rattle.plan.specs.declared.layout.Piece.{Piece}
 use Rattle.plan.proofs.Pieces.{rows-add}
 
@@ -45,11 +46,11 @@ leaf-inj e = cc
 -- what the row of seven numbers says, by its form
 abbrev rowBy : ℕ → ℕ → SignalExpr → SignalExpr → AnchorRange → Row
 rowBy form b s t r =
-    pickRow (ltb form 1) (Node (RangeCheck s r))
-    (pickRow (ltb form 2) (Node (DelayedCheck s t r))
-    (pickRow (ltb form 3) (Node (Obligation b s t r))
-    (pickRow (ltb form 4) (Node AndNode)
-    (pickRow (ltb form 5) (Node OrNode) Unknown))))
+    pick (ltb form 1) (Node (RangeCheck s r))
+    (pick (ltb form 2) (Node (DelayedCheck s t r))
+    (pick (ltb form 3) (Node (Obligation b s t r))
+    (pick (ltb form 4) (Node AndNode)
+    (pick (ltb form 5) (Node OrNode) Unknown))))
 
 row-past : (form b : ℕ) (s t : SignalExpr) (r : AnchorRange) → 5 ≤ form → rowBy form b s t r ≡ Unknown
 row-past form b s t r h =
@@ -154,7 +155,7 @@ module _ (f : Formula) (first : ℕ) where
       rows-bits = ap total rows-pieces
 
       -- it is a part of the table
-      pub compiled-part : Part nodes nfirst ncount
+      pub compiled-part : RowsPart nodes nfirst ncount
       unfolding monOf
       compiled-part =
           let (b, p) = keep-inv (leb ncount 256 && leb (7 * (nfirst + ncount)) (length nodes)) _ m e in
@@ -175,5 +176,5 @@ module _ (ops nums : List ℕ) (first count : ℕ) (nodes : List ℕ) (nfirst nc
     pub table-bits : rowBits nodes nfirst ncount ≡ bits m
     table-bits = let (f, u) = over-formula in rows-bits f first nodes nfirst ncount m u
 
-    pub table-part : Part nodes nfirst ncount
+    pub table-part : RowsPart nodes nfirst ncount
     table-part = let (f, u) = over-formula in compiled-part f first nodes nfirst ncount m u

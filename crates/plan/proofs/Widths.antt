@@ -7,11 +7,12 @@ use native.Mathlib.Nat.{two-pow-succ, pos-of-ne-zero, pow-le-pow-right}
 use native.Mathlib.Numerals.{one-add, add-one}
 use lib.Dec.{eqb}
 use mathlib.Core.Logic.{⊎-elim}
+use Rattle.terms.specs.Choice.{pick}
 use Rattle.formula.proofs.Cases.{below-or}
 use mir.Syntax.{w64}
 use mir.Val.{Fits}
 use borrow.Author.Tests.{eqb-true, eqb-false}
-use Rattle.plan.specs.Width.{Width, pick, halvings, width}
+use Rattle.plan.specs.Width.{Width, halvings, width}
 
 -- at most one number is the least
 pub width-only : {b j k : ℕ} → Width b j → Width b k → j ≡ k

@@ -7,8 +7,9 @@ use Prim.Native.Nat.{ℕ, zero, suc, _+_, _*_, _≤_, _<_}
 use lib.Dec.{eqb}
 use lib.ListN.{length, getD, set}
 use lib.Seq.{sets}
-use Rattle.plan.specs.Width.{pick}
-use Rattle.plan.specs.Rows.{rowBits, Part}
+use Rattle.terms.specs.Limits.{bookRules}
+use Rattle.terms.specs.Choice.{pick}
+use Rattle.plan.specs.Rows.{rowBits, RowsPart}
 
 -- the bits of the rules below r that are chosen
 unfoldable pub bitsBelow : (ℕ → Bool) → (ℕ → ℕ) → ℕ → ℕ
@@ -49,12 +50,12 @@ partBits nodes nfirsts ncounts r = rowBits nodes (getD nfirsts r 0) (getD ncount
 
 -- n rules of at most 64; the part of each one that compiles is in the node table
 pub record Rowed (kinds refusals nodes nfirsts ncounts : List ℕ) (n : ℕ) : Type 0 where
-  pub few : n ≤ 64
+  pub few : n ≤ bookRules
   pub in-kinds : n ≤ length kinds
   pub in-refusals : n ≤ length refusals
   pub in-nfirsts : n ≤ length nfirsts
   pub in-ncounts : n ≤ length ncounts
-  pub parts : (r : ℕ) → r < n → getD refusals r 0 ≡ 0 → Part nodes (getD nfirsts r 0) (getD ncounts r 0)
+  pub parts : (r : ℕ) → r < n → getD refusals r 0 ≡ 0 → RowsPart nodes (getD nfirsts r 0) (getD ncounts r 0)
 
 -- the bits of rule r where it is chosen, at most 65 for each of 256 nodes
 pub record Chosen (chosen : ℕ → Bool) (bits : ℕ → ℕ) (r b : ℕ) : Type 0 where

@@ -6,15 +6,13 @@ use mathlib.Core.List.{List, [], _∷_}
 use Prim.Native.Nat.{ℕ, zero, suc, _+_, _*_, _≤_, _<_}
 use lib.Dec.{eqb}
 use lib.ListN.{length, getD}
+use Rattle.terms.specs.Limits.{ruleNodes}
+use Rattle.terms.specs.Choice.{pick}
 use Rattle.plan.specs.Layout.{nothing, register, owing, breadth, total}
 use Rattle.plan.specs.declared.layout.Piece.{Piece}
 
-abbrev pub pickPiece : Bool → Piece → Piece → Piece
-pickPiece true p q = p
-pickPiece false p q = q
-
 abbrev pub pieceOf : ℕ → ℕ → Piece
-pieceOf form bound = pickPiece (eqb form 1) register (pickPiece (eqb form 2) (owing bound) nothing)
+pieceOf form bound = pick (eqb form 1) register (pick (eqb form 2) (owing bound) nothing)
 
 abbrev pub rowPiece : List ℕ → ℕ → Piece
 rowPiece nodes i = pieceOf (getD nodes (7 * i) 0) (getD nodes (7 * i + 1) 0)
@@ -38,6 +36,6 @@ pub record Summed (nodes : List ℕ) (i n r : ℕ) : Type 0 where
   pub most : r ≤ 65 * n
 
 -- rows i up to i + n of at most 256, all in the table
-pub record Part (nodes : List ℕ) (i n : ℕ) : Type 0 where
-  pub few : n ≤ 256
+pub record RowsPart (nodes : List ℕ) (i n : ℕ) : Type 0 where
+  pub few : n ≤ ruleNodes
   pub inside : 7 * (i + n) ≤ length nodes

@@ -4,14 +4,11 @@
 use mathlib.Core.Bool.{Bool, true, false}
 use Prim.Native.Nat.{ℕ, zero, suc, _+_, _/_, _^_, _≤_}
 use lib.Dec.{eqb}
+use Rattle.terms.specs.Choice.{pick}
 
 pub record Width (b k : ℕ) : Type 0 where
   pub enough : b + 1 ≤ 2 ^ k
   pub least : (j : ℕ) → b + 1 ≤ 2 ^ j → k ≤ j
-
-abbrev pub pick : Bool → ℕ → ℕ → ℕ
-pick true m n = m
-pick false m n = n
 
 -- at most n halvings
 unfoldable pub halvings : ℕ → ℕ → ℕ

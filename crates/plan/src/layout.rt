@@ -1,10 +1,12 @@
 // The bits of a node, of a rule and of a book's rules.
+use terms::form::DELAYED;
+use terms::form::OBLIGATION;
 ghost use mathlib.Core.Path.{_≡_};
 ghost use Prim.Native.Nat.{_+_, _*_, _<_, _≤_};
 ghost use lib.ListN.{length};
 ghost use Rattle.plan.specs.Width.{width};
 ghost use Rattle.plan.specs.Layout.{slotIn};
-ghost use Rattle.plan.specs.Rows.{pieceOf, rowPieces, Breadth, Summed, Part};
+ghost use Rattle.plan.specs.Rows.{pieceOf, rowPieces, Breadth, Summed, RowsPart};
 ghost use Rattle.plan.specs.Book.{properties, assumptions, isZero, partBits, Rowed, Chosen, Counted, Stored, Arranged};
 
 // The bits of one node: of the pending flag, of the remaining count, of the remembered antecedent.
@@ -37,14 +39,14 @@ pub fn width_of(b: u64) -> u64
 pub fn piece_of(form: u64, bound: u64) -> Piece
     ensures { λ r. ⌜ r ≡ pieceOf form bound ⌝ }
 {
-    if form == 1 {
+    if form == DELAYED {
         return Piece {
             pending: 0,
             remaining: 0,
             antecedent: 1,
         };
     }
-    if form != 2 {
+    if form != OBLIGATION {
         return Piece {
             pending: 0,
             remaining: 0,
@@ -78,7 +80,7 @@ fn breadth_of(form: u64, bound: u64) -> u64
 
 // The bits of the n rows from nfirst on.
 pub fn rule_bits(nodes: &[u64], nfirst: usize, n: usize) -> u64
-    requires { ⌜ Part (now nodes) nfirst n ⌝ }
+    requires { ⌜ RowsPart (now nodes) nfirst n ⌝ }
     ensures { λ r. ⌜ Summed (now (nodes .entry)) nfirst n r ⌝ }
 {
     let mut sum: u64 = 0;
@@ -93,7 +95,7 @@ pub fn rule_bits(nodes: &[u64], nfirst: usize, n: usize) -> u64
 
 // The slot of node j among the n rows from nfirst on.
 pub fn slot_of(nodes: &[u64], nfirst: usize, n: usize, j: usize) -> Slot
-    requires { ⌜ (Part (now nodes) nfirst n) × (j < n) ⌝ }
+    requires { ⌜ (RowsPart (now nodes) nfirst n) × (j < n) ⌝ }
     ensures { λ r. ⌜ r ≡ slotIn (rowPieces (now (nodes .entry)) nfirst n) j ⌝ }
 {
     let offset = rule_bits(nodes, nfirst, j);
@@ -113,7 +115,8 @@ fn property_at(
     r: usize,
 ) -> u64
     requires { ⌜ (Rowed (now kinds) (now refusals) (now nodes) (now nfirsts) (now ncounts) n) × (r < n) ⌝ }
-    ensures { λ b. ⌜ Chosen (properties (isZero (now (kinds .entry))) (isZero (now (refusals .entry)))) (partBits (now (nodes .entry)) (now (nfirsts .entry)) (now (ncounts .entry))) r b ⌝ }
+    ensures { λ b. ⌜ Chosen (properties (isZero (now (kinds .entry))) (isZero (now (refusals .entry))))
+        (partBits (now (nodes .entry)) (now (nfirsts .entry)) (now (ncounts .entry))) r b ⌝ }
 {
     if refusals[r] != 0 {
         return 0;
@@ -135,7 +138,8 @@ fn assumption_at(
     r: usize,
 ) -> u64
     requires { ⌜ (Rowed (now kinds) (now refusals) (now nodes) (now nfirsts) (now ncounts) n) × (r < n) ⌝ }
-    ensures { λ b. ⌜ Chosen (assumptions (isZero (now (kinds .entry))) (isZero (now (refusals .entry)))) (partBits (now (nodes .entry)) (now (nfirsts .entry)) (now (ncounts .entry))) r b ⌝ }
+    ensures { λ b. ⌜ Chosen (assumptions (isZero (now (kinds .entry))) (isZero (now (refusals .entry))))
+        (partBits (now (nodes .entry)) (now (nfirsts .entry)) (now (ncounts .entry))) r b ⌝ }
 {
     if refusals[r] != 0 {
         return 0;
@@ -156,7 +160,8 @@ fn property_bits(
     n: usize,
 ) -> u64
     requires { ⌜ Rowed (now kinds) (now refusals) (now nodes) (now nfirsts) (now ncounts) n ⌝ }
-    ensures { λ b. ⌜ Counted (properties (isZero (now (kinds .entry))) (isZero (now (refusals .entry)))) (partBits (now (nodes .entry)) (now (nfirsts .entry)) (now (ncounts .entry))) n b ⌝ }
+    ensures { λ b. ⌜ Counted (properties (isZero (now (kinds .entry))) (isZero (now (refusals .entry))))
+        (partBits (now (nodes .entry)) (now (nfirsts .entry)) (now (ncounts .entry))) n b ⌝ }
 {
     let mut sum: u64 = 0;
     let mut r: usize = 0;
@@ -179,7 +184,8 @@ fn store(
     bits: &mut [u64],
 )
     requires { ⌜ (r < length (now kinds)) × ((r < length (now refusals)) × ((r < length (now starts)) × (r < length (now bits)))) ⌝ }
-    ensures { λ u. ⌜ Stored (isZero (now (refusals .entry)) r) (isZero (now (kinds .entry)) r) r x y b (now (starts .entry)) (now (starts .exit)) (now (bits .entry)) (now (bits .exit)) ⌝ }
+    ensures { λ u. ⌜ Stored (isZero (now (refusals .entry)) r) (isZero (now (kinds .entry)) r) r x y b (now (starts .entry)) (now (starts .exit))
+        (now (bits .entry)) (now (bits .exit)) ⌝ }
 {
     if refusals[r] != 0 {
         return;
@@ -204,7 +210,9 @@ pub fn arrange(
     bits: &mut [u64],
 )
     requires { ⌜ (Rowed (now kinds) (now refusals) (now nodes) (now nfirsts) (now ncounts) n) × ((n ≤ length (now starts)) × (n ≤ length (now bits))) ⌝ }
-    ensures { λ u. ⌜ Arranged n (isZero (now (kinds .entry))) (isZero (now (refusals .entry))) (partBits (now (nodes .entry)) (now (nfirsts .entry)) (now (ncounts .entry))) (now (starts .entry)) (now (starts .exit)) (now (bits .entry)) (now (bits .exit)) ⌝ }
+    ensures { λ u. ⌜ Arranged n (isZero (now (kinds .entry))) (isZero (now (refusals .entry)))
+        (partBits (now (nodes .entry)) (now (nfirsts .entry)) (now (ncounts .entry))) (now (starts .entry)) (now (starts .exit)) (now (bits .entry))
+        (now (bits .exit)) ⌝ }
 {
     let mut x: u64 = 0;
     let mut y: u64 = property_bits(kinds, refusals, nodes, nfirsts, ncounts, n);

@@ -8,7 +8,7 @@ use native.Mathlib.Omega.{arith}
 use borrow.Author.Tests.{le-leb, lt-leb, leb-true}
 use lib.Dec.{leb}
 use lib.ListN.{length}
-use Rattle.number.specs.Number.{pick}
+use Rattle.terms.specs.Choice.{pick}
 use Rattle.line.specs.Text.{lines}
 use Rattle.line.specs.Line.{parse}
 use Rattle.line.proofs.Parts.{lines-few}
@@ -16,22 +16,22 @@ use Rattle.book.specs.Book.{Book, empty, whole, Fault, word, place, label, numb
 use Rattle.book.specs.Checked as Checking
 use Rattle.book.specs.declared.check.Checked as checked
 use Rattle.book.specs.declared.check.Checked.the-variants as check
-use Rattle.reader.specs.Tables.{Tables, written, roomy, readInto, after}
-use Rattle.reader.specs.Filled.{Fillable, Filled}
+use Rattle.reader.specs.Tables.{BookTables, written, roomy, readInto, after}
+use Rattle.reader.specs.Filled.{Fillable, FilledTables}
 use Rattle.reader.specs.Answer.{Roomy, Reads, resultOf}
 use Rattle.reader.specs.declared.read.Answer.{Answer}
 use Rattle.reader.specs.declared.read.Answer.the-variants.{Read, Refused}
 
-pub has-room : (t : Tables) → Roomy t → roomy t ≡ true
+pub has-room : (t : BookTables) → Roomy t → roomy t ≡ true
 unfolding roomy
 has-room t r = rw (le-leb 2048 (length (t .labels)) (r .labels), le-leb 64 (length (t .lens)) (r .lens), le-leb 64 (length (t .kinds)) (r .kinds), le-leb 64 (length (t .firsts)) (r .firsts), le-leb 64 (length (t .counts)) (r .counts), le-leb 1024 (length (t .ops)) (r .ops), le-leb 1024 (length (t .nums)) (r .nums)) refl
 
-into-roomy : (text : List ℕ) (t : Tables) → Roomy t → readInto text t ≡ read text
+into-roomy : (text : List ℕ) (t : BookTables) → Roomy t → readInto text t ≡ read text
 unfolding readInto
 into-roomy text t r = ap (λ (b : Bool). pick b (read text) (refused 1 0)) (has-room t r)
 
 -- ---- a table that is too short
-no-room : (text : List ℕ) (t : Tables) → roomy t ≡ false → Reads text t (Refused 1 0) t
+no-room : (text : List ℕ) (t : BookTables) → roomy t ≡ false → Reads text t (Refused 1 0) t
 unfolding readInto after
 no-room text t e = record { answer = rw e refl; tables = rw e refl }
 
@@ -89,7 +89,7 @@ result-contents (accepted b) r n h e = (b, refl, go e)
     go e = record { rules = cc; nodes = cc; head = cc }
 result-contents (refused m j) r n h e = let z : _≡_ {A = ℕ} 0 1 = cc in absurd (omega arith)
 
-module _ (text : List ℕ) (t : Tables) (room : Roomy t) (c : checked.Checked) (is : Checking.resultOf c ≡ bookResult (read text)) where
+module _ (text : List ℕ) (t : BookTables) (room : Roomy t) (c : checked.Checked) (is : Checking.resultOf c ≡ bookResult (read text)) where
   pub read-refused : (n k : ℕ) → c ≡ check.Refused n k → Reads text t (Refused n k) t
   unfolding after
   read-refused n k e =
@@ -101,7 +101,7 @@ module _ (text : List ℕ) (t : Tables) (room : Roomy t) (c : checked.Checked) (
       let (b, o, a) = result-contents (read text) r n h (sym (ap Checking.resultOf e) ∙ is) in
       record { book = b; is = o; room = has-room t room }
 
-  pub read-good : (r n h : ℕ) (t′ : Tables) → c ≡ check.Good r n h → Filled text t t′ → Reads text t (Read r n h) t′
+  pub read-good : (r n h : ℕ) (t′ : BookTables) → c ≡ check.Good r n h → FilledTables text t t′ → Reads text t (Read r n h) t′
   unfolding after
   read-good r n h t′ e f =
       let (b, o, a) = result-contents (read text) r n h (sym (ap Checking.resultOf e) ∙ is) in
@@ -111,13 +111,13 @@ module _ (text : List ℕ) (t : Tables) (room : Roomy t) (c : checked.Checked) (
       }
 
 -- ---- for callers: what an answer says
-pub read-inv : (text : List ℕ) (t t′ : Tables) (r n h : ℕ) → Reads text t (Read r n h) t′ → (b : Book) × (readInto text t ≡ accepted b) × (t′ ≡ written b t) × (r ≡ length (b .labels)) × (n ≡ length (b .ops)) × (h ≡ b .head)
+pub read-inv : (text : List ℕ) (t t′ : BookTables) (r n h : ℕ) → Reads text t (Read r n h) t′ → (b : Book) × (readInto text t ≡ accepted b) × (t′ ≡ written b t) × (r ≡ length (b .labels)) × (n ≡ length (b .ops)) × (h ≡ b .head)
 unfolding after
 read-inv text t t′ r n h u =
     let (b, o, a) = result-contents (readInto text t) r n h (u .answer) in
     (b, o, u .tables ∙ ap (λ (x : Outcome). after x t) o, a .rules, a .nodes, a .head)
 
-pub refused-inv : (text : List ℕ) (t t′ : Tables) (n k : ℕ) → Reads text t (Refused n k) t′ → (readInto text t ≡ refused n k) × (t′ ≡ t)
+pub refused-inv : (text : List ℕ) (t t′ : BookTables) (n k : ℕ) → Reads text t (Refused n k) t′ → (readInto text t ≡ refused n k) × (t′ ≡ t)
 unfolding after
 refused-inv text t t′ n k u =
     let o : readInto text t ≡ refused n k = result-refused (readInto text t) n k (u .answer) in
@@ -154,7 +154,7 @@ read-small b i (l ∷ ls) n k h e = go (fault b (parse l)) e (read-small (add (l
     go none e ih = ih e
     go (some f) e ih = let (p, q) = refused-is e in record { number = omega (arith, fault-low f); line = omega arith }
 
-pub refused-small : (text : List ℕ) (t : Tables) (n k : ℕ) → readInto text t ≡ refused n k → Small n k
+pub refused-small : (text : List ℕ) (t : BookTables) (n k : ℕ) → readInto text t ≡ refused n k → Small n k
 unfolding readInto read
 refused-small text t n k e = go (roomy t) (leb (length text) 65535) refl (ended text) e
   where

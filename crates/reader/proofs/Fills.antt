@@ -16,7 +16,7 @@ use Rattle.line.specs.Means.{means, inLine, LineIs}
 use Rattle.line.specs.declared.line.Line as code
 use Rattle.line.specs.declared.line.Line.the-variants as lines
 use Rattle.line.proofs.line.Line as line-type
-use Rattle.reader.specs.Tables.{Tables}
+use Rattle.reader.specs.Tables.{BookTables}
 use Rattle.reader.specs.Filled.{placed, RuleRoom, RulePut, NodeRoom, NodePut, LineRoom, LinePut, RoomFor, LeftBy, Kept, RuleDone, NodeDone}
 use Rattle.reader.specs.declared.fill.Tally.{Tally}
 
@@ -86,7 +86,7 @@ module _ (line labels lens kinds firsts counts ops nums : List ℕ) (f : Tally) 
     line-node-put counts′ ops′ nums′ r u = record { left = subst (λ (x : Line). LeftBy x (record { labels = labels; lens = lens; kinds = kinds; firsts = firsts; counts = counts; ops = ops; nums = nums }) f (record { labels = labels; lens = lens; kinds = kinds; firsts = firsts; counts = counts′; ops = ops′; nums = nums′ }) r) (sym (node-parse line l is op num e)) (record { put = u; labels-kept = refl; lens-kept = refl; kinds-kept = refl; firsts-kept = refl }) }
 
 -- any other line leaves everything
-kept-by : (line : List ℕ) (t : Tables) (f : Tally) (l : code.Line) → OneOf (0 ∷ 2 ∷ 4 ∷ 5 ∷ 6 ∷ []) (tagOf line-type.the-type l) → LeftBy (means line l) t f t f
+kept-by : (line : List ℕ) (t : BookTables) (f : Tally) (l : code.Line) → OneOf (0 ∷ 2 ∷ 4 ∷ 5 ∷ 6 ∷ []) (tagOf line-type.the-type l) → LeftBy (means line l) t f t f
 unfolding means
 kept-by line t f lines.Bad h = record { tables = refl; fill = refl }
 kept-by line t f (lines.Rule a b c) h = absurd (miss (0 ∷ 2 ∷ 4 ∷ 5 ∷ 6 ∷ []) 1 tt h)
@@ -96,5 +96,5 @@ kept-by line t f lines.WrongNode h = record { tables = refl; fill = refl }
 kept-by line t f (lines.Step a b) h = record { tables = refl; fill = refl }
 kept-by line t f lines.WrongStep h = record { tables = refl; fill = refl }
 
-pub line-kept : (line : List ℕ) (t : Tables) (f : Tally) (l : code.Line) → LineIs line l → OneOf (0 ∷ 2 ∷ 4 ∷ 5 ∷ 6 ∷ []) (tagOf line-type.the-type l) → LinePut line t f t f
+pub line-kept : (line : List ℕ) (t : BookTables) (f : Tally) (l : code.Line) → LineIs line l → OneOf (0 ∷ 2 ∷ 4 ∷ 5 ∷ 6 ∷ []) (tagOf line-type.the-type l) → LinePut line t f t f
 line-kept line t f l is h = record { left = subst (λ (x : Line). LeftBy x t f t f) (is .holds) (kept-by line t f l h) }

@@ -11,15 +11,15 @@ use mir.Syntax.{w64}
 use mir.Val.{Fits}
 use lib.Dec.{leb}
 use lib.ListN.{length, take, drop, set, length-drop, drop-of-length-le, length-append}
-use Rattle.number.specs.Number.{pick}
+use Rattle.terms.specs.Choice.{pick}
 use Rattle.line.specs.Text.{lines, parts, Found}
 use Rattle.line.specs.Line.{Line, bad, rule, wrong-rule, node, wrong-node, step, wrong-step, parse}
 use Rattle.book.specs.Book.{Book, empty, isNil, whole, lastOf, bump, Fault, fault, add, Outcome, accepted, refused, unless, readOn, ended, read, numberOf}
 use Rattle.book.proofs.States.{last-snoc, last-bump}
 use Rattle.book.proofs.Checks.{read-line}
-use Rattle.reader.specs.Tables.{Tables, over, cells, written, roomy}
+use Rattle.reader.specs.Tables.{BookTables, over, cells, written, roomy}
 use Rattle.reader.specs.Answer.{Roomy}
-use Rattle.reader.specs.Filled.{placed, RuleRoom, RulePut, NodeRoom, NodePut, LineRoom, LinePut, RoomFor, LeftBy, Kept, RuleDone, NodeDone, Fillable, Filled}
+use Rattle.reader.specs.Filled.{placed, RuleRoom, RulePut, NodeRoom, NodePut, LineRoom, LinePut, RoomFor, LeftBy, Kept, RuleDone, NodeDone, Fillable, FilledTables}
 use Rattle.reader.specs.declared.fill.Tally.{Tally}
 use Rattle.reader.proofs.Sounds.{both, LabelOf, Passed, passed, parse-label, label-short, rules-left, nodes-left, node-inside, Sound, sound-empty, sound-add, Short}
 use Rattle.reader.proofs.Columns.{over-long, over-snoc, over-bump, cells-snoc, cells-long, map-snoc}
@@ -28,7 +28,7 @@ use Rattle.reader.proofs.Columns.{over-long, over-snoc, over-bump, cell
 and-true : (a b : Bool) → (a && b) ≡ true → (a ≡ true) × (b ≡ true)
 and-true a b h = both {a = a} {b = b} h
 
-pub roomy-is : (t : Tables) → roomy t ≡ true → Roomy t
+pub roomy-is : (t : BookTables) → roomy t ≡ true → Roomy t
 unfolding roomy
 roomy-is t e =
     let (a, e1) = and-true (leb 2048 (length (t .labels))) _ e in
@@ -44,7 +44,7 @@ pub record Tallied (b : Book) (f : Tally) : Type 0 where
   pub nodes : f .nodes ≡ length (b .ops)
   pub own : f .own ≡ lastOf (b .counts)
 
-pub record FillRun (text : List ℕ) (t₀ t : Tables) (f : Tally) (at : ℕ) : Type 0 where
+pub record FillRun (text : List ℕ) (t₀ t : BookTables) (f : Tally) (at : ℕ) : Type 0 where
   pub book : Book
   pub line : ℕ
   pub sound : Sound book
@@ -54,10 +54,10 @@ pub record FillRun (text : List ℕ) (t₀ t : Tables) (f : Tally) (at : ℕ) : 
   pub near : at ≤ length text + 1
   pub same : readOn empty 0 (lines text) ≡ readOn book line (lines (drop at text))
 
-abbrev mk : List ℕ → List ℕ → List ℕ → List ℕ → List ℕ → List ℕ → List ℕ → Tables
+abbrev mk : List ℕ → List ℕ → List ℕ → List ℕ → List ℕ → List ℕ → List ℕ → BookTables
 mk a b c d e f g = record { labels = a; lens = b; kinds = c; firsts = d; counts = e; ops = f; nums = g }
 
-pub tables-eq : (t u : Tables) → t .labels ≡ u .labels → t .lens ≡ u .lens → t .kinds ≡ u .kinds → t .firsts ≡ u .firsts → t .counts ≡ u .counts → t .ops ≡ u .ops → t .nums ≡ u .nums → t ≡ u
+pub tables-eq : (t u : BookTables) → t .labels ≡ u .labels → t .lens ≡ u .lens → t .kinds ≡ u .kinds → t .firsts ≡ u .firsts → t .counts ≡ u .counts → t .ops ≡ u .ops → t .nums ≡ u .nums → t ≡ u
 tables-eq t u a b c d e f g =
     ap (λ (x : List ℕ). mk x (t .lens) (t .kinds) (t .firsts) (t .counts) (t .ops) (t .nums)) a
     ∙ ap (λ (x : List ℕ). mk (u .labels) x (t .kinds) (t .firsts) (t .counts) (t .ops) (t .nums)) b
@@ -108,7 +108,7 @@ unless-none none k r b e = (refl, e)
 unless-none (some f) k r b e = accepted-refused e
 
 -- ---- lengths
-module _ (b : Book) (t : Tables) (s : Sound b) (r : Roomy t) where
+module _ (b : Book) (t : BookTables) (s : Sound b) (r : Roomy t) where
   map-long : (xs : List (List ℕ)) → length (map length xs) ≡ length xs
   map-long [] = refl
   map-long (x ∷ xs) = ap suc (map-long xs)
@@ -167,7 +167,7 @@ module _ (b : Book) (t : Tables) (s : Sound b) (r : Roomy t) where
   room-by f (step u w) a h p = tt
   room-by f wrong-step a h p = tt
 
-  module _ (n : ℕ) (f f′ : Tally) (t′ : Tables) (a : Tallied b f) where
+  module _ (n : ℕ) (f f′ : Tally) (t′ : BookTables) (a : Tallied b f) where
     rule-after : (l : List ℕ) (k : ℕ) → length l ≤ 32 → Passed b (rule l k) → RuleDone l k (written b t) f t′ f′ → (t′ ≡ written (add n b (rule l k)) t) × Tallied (add n b (rule l k)) f′
     unfolding written add
     rule-after l k h p d =
@@ -226,12 +226,12 @@ module _ (b : Book) (t : Tables) (s : Sound b) (r : Roomy t) where
     line-after wrong-step h p d = kept-after d
 
 -- ---- the loop
-pub fill-first : (text : List ℕ) (t : Tables) → Fillable text t → FillRun text t t (record { rules = 0; nodes = 0; own = 0 }) 0
+pub fill-first : (text : List ℕ) (t : BookTables) → Fillable text t → FillRun text t t (record { rules = 0; nodes = 0; own = 0 }) 0
 unfolding written over cells lastOf
 fill-first text t h = record { book = empty; line = 0; sound = sound-empty; laid = refl; tallied = record { rules = refl; nodes = refl; own = refl }; ready = h; near = omega arith; same = refl }
 
-module _ (text : List ℕ) (t₀ t : Tables) (f : Tally) (at : ℕ) (v : FillRun text t₀ t f at) where
-  pub fill-end : length text ≤ at → Filled text t₀ t
+module _ (text : List ℕ) (t₀ t : BookTables) (f : Tally) (at : ℕ) (v : FillRun text t₀ t f at) where
+  pub fill-end : length text ≤ at → FilledTables text t₀ t
   unfolding readOn parts
   fill-end h = record { is = λ b e. v .laid ∙ ap (λ (x : Book). written x t₀) (accepted-inj (go (whole (v .book)) (sym (ends b e)))) }
     where
@@ -250,12 +250,12 @@ module _ (text : List ℕ) (t₀ t : Tables) (f : Tally) (at : ℕ) (v : FillRun
     no-fault = unless-none _ _ _ _ fill-on .0
 
     pub fill-room : LineRoom first t f
-    fill-room = record { room = subst (λ (x : Tables). RoomFor (parse first) x f) (sym (v .laid)) (room-by (v .book) t₀ (v .sound) (roomy-is t₀ (v .ready .room)) f (parse first) (v .tallied) (parse-label first) (passed (v .book) (parse first) no-fault)) }
+    fill-room = record { room = subst (λ (x : BookTables). RoomFor (parse first) x f) (sym (v .laid)) (room-by (v .book) t₀ (v .sound) (roomy-is t₀ (v .ready .room)) f (parse first) (v .tallied) (parse-label first) (passed (v .book) (parse first) no-fault)) }
 
-    pub fill-next : (t′ : Tables) (f′ : Tally) → LinePut first t f t′ f′ → FillRun text t₀ t′ f′ (at + (n + 1))
+    pub fill-next : (t′ : BookTables) (f′ : Tally) → LinePut first t f t′ f′ → FillRun text t₀ t′ f′ (at + (n + 1))
     fill-next t′ f′ p =
         let short : n ≤ length text - at = subst (λ (i : ℕ). n ≤ i) (ap length e ∙ length-drop at text) (g .inside) in
-        let (x, y) = line-after (v .book) t₀ (v .sound) (roomy-is t₀ (v .ready .room)) (n + 1) f f′ t′ (v .tallied) (parse first) (parse-label first) (passed (v .book) (parse first) no-fault) (subst (λ (z : Tables). LeftBy (parse first) z f t′ f′) (v .laid) (p .left)) in
+        let (x, y) = line-after (v .book) t₀ (v .sound) (roomy-is t₀ (v .ready .room)) (n + 1) f f′ t′ (v .tallied) (parse first) (parse-label first) (passed (v .book) (parse first) no-fault) (subst (λ (z : BookTables). LeftBy (parse first) z f t′ f′) (v .laid) (p .left)) in
         record {
           book = add (n + 1) (v .book) (parse first);
           line = v .line + 1;
@@ -267,8 +267,8 @@ module _ (text : List ℕ) (t₀ t : Tables) (f : Tally) (at : ℕ) (v : FillRun
           same = v .same ∙ read-line (v .book) (v .line) text rest first at n (accepted-ended text (v .ready .book) (v .ready .is)) h e g e′ ∙ ap (λ (o : Option Fault). unless o (v .line) (readOn (add (n + 1) (v .book) (parse first)) (v .line + 1) (lines (drop (at + (n + 1)) text)))) no-fault;
         }
 
-  kept-long : (pick-out : Tables → List ℕ) → length (pick-out (written (v .book) t₀)) ≡ length (pick-out t₀) → length (pick-out t) ≡ length (pick-out t₀)
-  kept-long out h = ap (λ (x : Tables). length (out x)) (v .laid) ∙ h
+  kept-long : (pick-out : BookTables → List ℕ) → length (pick-out (written (v .book) t₀)) ≡ length (pick-out t₀) → length (pick-out t) ≡ length (pick-out t₀)
+  kept-long out h = ap (λ (x : BookTables). length (out x)) (v .laid) ∙ h
 
   pub same-labels : length (t .labels) ≡ length (t₀ .labels)
   same-labels = kept-long (λ x. x .labels) (long-labels (v .book) t₀ (v .sound) (roomy-is t₀ (v .ready .room)))
@@ -296,7 +296,7 @@ module _ (text rest : List ℕ) (at n : ℕ) (h : at < length text) (e : rest �
   fill-short : n ≤ length text - at
   fill-short = subst (λ (i : ℕ). n ≤ i) (ap length e ∙ length-drop at text) (f .inside)
 
-  pub fill-at : (t₀ t : Tables) (g : Tally) → FillRun text t₀ t g at → Fits w64 (at + (n + 1))
+  pub fill-at : (t₀ t : BookTables) (g : Tally) → FillRun text t₀ t g at → Fits w64 (at + (n + 1))
   fill-at t₀ t g v = record { fits = omega (arith, fill-short, accepted-short text (v .ready .book) (v .ready .is)) }
 
   pub fill-falls : length text - (at + (n + 1)) < length text - at

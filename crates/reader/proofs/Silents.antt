@@ -7,7 +7,8 @@ use native.Mathlib.Omega.{arith}
 use lib.Dec.{eqb, ltb}
 use borrow.Author.Tests.{eqb-true}
 use lib.ListN.{length, getD}
-use Rattle.number.specs.Number.{pick, decimalOf, hexOf}
+use Rattle.terms.specs.Choice.{pick}
+use Rattle.number.specs.Number.{decimalOf, hexOf}
 use Rattle.number.specs.declared.Number.{Number}
 use Rattle.number.specs.declared.Number.the-variants.{Value, Wrong}
 use Rattle.line.specs.Text.{onto, parts, fields, eqbs}
@@ -15,7 +16,7 @@ use Rattle.line.specs.Word.{wordOf, lookup, fieldCount}
 use Rattle.line.specs.Line.{Line, bad, rule, wrong-rule, node, wrong-node, step, wrong-step, content, stepLine, ofFields, parse}
 use Rattle.line.specs.declared.word.Word.{Word}
 use Rattle.line.specs.declared.word.Word.the-variants.{Atom, Plain, Bounded, Rule, Step, Unknown}
-use Rattle.reader.specs.Filled.{Silent, Told}
+use Rattle.reader.specs.Filled.{Silent, ToldLine}
 
 abbrev SilentWord : Word → Type 0
 SilentWord (Atom op) = ⊥
@@ -78,9 +79,9 @@ silent-line r =
     silent-fields (wordOf (getD (fields (115 ∷ r)) 0 [])) (fields (115 ∷ r))
     (subst (λ (x : List ℕ). SilentWord (wordOf x)) (sym (first-onto 115 (fields r) (some-field r))) (silent-word (getD (fields r) 0 [])))
 
-pub told-empty : (line : List ℕ) → Told line false
+pub told-empty : (line : List ℕ) → ToldLine line false
 told-empty line = record { is = λ e. let z : _≡_ {A = ℕ} 0 1 = cc in absurd (omega arith) }
 
-pub told-first : (line : List ℕ) → (length line ≡ 0 → ⊥) → Told line (eqb (getD line 0 0) 115)
+pub told-first : (line : List ℕ) → (length line ≡ 0 → ⊥) → ToldLine line (eqb (getD line 0 0) 115)
 told-first [] h = absurd (h refl)
 told-first (b ∷ r) h = record { is = λ p. subst (λ (x : ℕ). Silent (parse (x ∷ r))) (sym (eqb-true b 115 p)) (silent-line r) }

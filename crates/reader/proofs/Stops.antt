@@ -6,12 +6,12 @@ use mathlib.Core.Option.{Option, none, some}
 use Prim.Native.Nat.{ℕ, _+_, _<_}
 use native.Mathlib.Omega.{arith}
 use lib.ListN.{length, take, drop}
-use Rattle.number.specs.Number.{pick}
+use Rattle.terms.specs.Choice.{pick}
 use Rattle.line.specs.Text.{Found}
 use Rattle.line.specs.Line.{Line, bad, rule, wrong-rule, node, wrong-node, step, wrong-step, parse}
 use Rattle.book.specs.Book.{Book, StepLine, isNil, whole, isLine, sortOf, stands, labelled, numbered, fault, add, accepted, refused, readOn, read}
-use Rattle.reader.specs.Tables.{Tables, over, cells, written}
-use Rattle.reader.specs.Filled.{Silent, Told, Filled}
+use Rattle.reader.specs.Tables.{BookTables, over, cells, written}
+use Rattle.reader.specs.Filled.{Silent, ToldLine, FilledTables}
 use Rattle.reader.specs.declared.fill.Tally.{Tally}
 use Rattle.reader.proofs.Sounds.{both, Passed, passed, node-inside}
 use Rattle.reader.proofs.Runs.{FillRun, tables-eq, accepted-inj, accepted-lines, unless-none, fill-on}
@@ -34,7 +34,7 @@ same-here b = record { labels = refl; kinds = refl; firsts = refl; counts = refl
 same-on : (a b c : Book) → Same a b → Same b c → Same a c
 same-on a b c p q = record { labels = p .labels ∙ q .labels; kinds = p .kinds ∙ q .kinds; firsts = p .firsts ∙ q .firsts; counts = p .counts ∙ q .counts; ops = p .ops ∙ q .ops; nums = p .nums ∙ q .nums }
 
-same-written : (b c : Book) (t : Tables) → Same b c → written b t ≡ written c t
+same-written : (b c : Book) (t : BookTables) → Same b c → written b t ≡ written c t
 unfolding written
 same-written b c t p =
     tables-eq (written b t) (written c t)
@@ -100,8 +100,8 @@ steps-only b c k (l ∷ ls) s e =
     let g = later-goes (length l + 1) b (parse l) s (passed b (parse l) o) in
     same-on b (add (length l + 1) b (parse l)) c (g .0) (steps-only (add (length l + 1) b (parse l)) c (k + 1) ls (g .1) a)
 
-module _ (text : List ℕ) (t₀ t : Tables) (f : Tally) (at : ℕ) (v : FillRun text t₀ t f at) (rest first : List ℕ) (n : ℕ) (h : at < length text) (e : rest ≡ drop at text) (g : Found 10 rest n) (e′ : first ≡ take n rest) where
-  pub fill-stop : (r : Bool) → Told first r → r ≡ true → Filled text t₀ t
+module _ (text : List ℕ) (t₀ t : BookTables) (f : Tally) (at : ℕ) (v : FillRun text t₀ t f at) (rest first : List ℕ) (n : ℕ) (h : at < length text) (e : rest ≡ drop at text) (g : Found 10 rest n) (e′ : first ≡ take n rest) where
+  pub fill-stop : (r : Bool) → ToldLine first r → r ≡ true → FilledTables text t₀ t
   fill-stop r u p =
       let (o, a) = unless-none _ _ _ _ (fill-on text t₀ t f at v rest first n h e g e′) in
       let q = silent-goes (n + 1) (v .book) (parse first) (u .is p) (passed (v .book) (parse first) o) in

@@ -4,8 +4,9 @@ use mathlib.Core.Path.{_≡_}
 use mathlib.Core.List.{List}
 use Prim.Native.Nat.{ℕ, _≤_}
 use lib.ListN.{length}
+use Rattle.terms.specs.Limits.{bookNodes, bookRules}
 use Rattle.book.specs.Book.{BookResult, contents, refusal, bookResult}
-use Rattle.reader.specs.Tables.{Tables, readInto, after}
+use Rattle.reader.specs.Tables.{BookTables, readInto, after}
 use Rattle.reader.specs.declared.read.Answer.{Answer}
 use Rattle.reader.specs.declared.read.Answer.the-variants.{Read, Refused}
 
@@ -14,16 +15,16 @@ abbrev pub resultOf : Answer → BookResult
 resultOf (Read r n s) = contents r n s
 resultOf (Refused n k) = refusal n k
 
-pub record Reads (text : List ℕ) (t : Tables) (r : Answer) (t′ : Tables) : Type 0 where
+pub record Reads (text : List ℕ) (t : BookTables) (r : Answer) (t′ : BookTables) : Type 0 where
   pub answer : resultOf r ≡ bookResult (readInto text t)
   pub tables : t′ ≡ after (readInto text t) t
 
 -- the room of every table
-pub record Roomy (t : Tables) : Type 0 where
+pub record Roomy (t : BookTables) : Type 0 where
   pub labels : 2048 ≤ length (t .labels)
-  pub lens : 64 ≤ length (t .lens)
-  pub kinds : 64 ≤ length (t .kinds)
-  pub firsts : 64 ≤ length (t .firsts)
-  pub counts : 64 ≤ length (t .counts)
-  pub ops : 1024 ≤ length (t .ops)
-  pub nums : 1024 ≤ length (t .nums)
+  pub lens : bookRules ≤ length (t .lens)
+  pub kinds : bookRules ≤ length (t .kinds)
+  pub firsts : bookRules ≤ length (t .firsts)
+  pub counts : bookRules ≤ length (t .counts)
+  pub ops : bookNodes ≤ length (t .ops)
+  pub nums : bookNodes ≤ length (t .nums)

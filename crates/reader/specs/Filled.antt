@@ -4,9 +4,10 @@ use mathlib.Core.Bool.{Bool, true, false}
 use mathlib.Core.List.{List, [], _∷_, _++_}
 use Prim.Native.Nat.{ℕ, suc, _+_, _-_, _*_, _≤_, _<_}
 use lib.ListN.{length, take, drop, set}
+use Rattle.terms.specs.Limits.{bookNodes, bookRules, ruleNodes}
 use Rattle.line.specs.Line.{Line, bad, rule, wrong-rule, node, wrong-node, step, wrong-step, parse}
 use Rattle.book.specs.Book.{Book, accepted, read}
-use Rattle.reader.specs.Tables.{Tables, written, roomy}
+use Rattle.reader.specs.Tables.{BookTables, written, roomy}
 use Rattle.reader.specs.declared.fill.Tally.{Tally}
 
 -- a list with another written into it from a place on
@@ -15,11 +16,11 @@ placed l k xs = take k l ++ xs ++ drop (k + length xs) l
 
 pub record RuleRoom (labels lens kinds firsts counts label : List ℕ) (f : Tally) : Type 0 where
   pub in-labels : 2048 ≤ length labels
-  pub in-lens : 64 ≤ length lens
-  pub in-kinds : 64 ≤ length kinds
-  pub in-firsts : 64 ≤ length firsts
-  pub in-counts : 64 ≤ length counts
-  pub few : f .rules < 64
+  pub in-lens : bookRules ≤ length lens
+  pub in-kinds : bookRules ≤ length kinds
+  pub in-firsts : bookRules ≤ length firsts
+  pub in-counts : bookRules ≤ length counts
+  pub few : f .rules < bookRules
   pub short : length label ≤ 32
 
 pub record RulePut (labels lens kinds firsts counts label : List ℕ) (kind : ℕ) (f : Tally) (labels′ lens′ kinds′ firsts′ counts′ : List ℕ) (r : Tally) : Type 0 where
@@ -33,13 +34,13 @@ pub record RulePut (labels lens kinds firsts counts label : List ℕ) (kind : �
   pub own-is : r .own ≡ 0
 
 pub record NodeRoom (counts ops nums : List ℕ) (f : Tally) : Type 0 where
-  pub in-counts : 64 ≤ length counts
-  pub in-ops : 1024 ≤ length ops
-  pub in-nums : 1024 ≤ length nums
+  pub in-counts : bookRules ≤ length counts
+  pub in-ops : bookNodes ≤ length ops
+  pub in-nums : bookNodes ≤ length nums
   pub begun : 1 ≤ f .rules
-  pub few : f .rules ≤ 64
-  pub less : f .nodes < 1024
-  pub own : f .own < 256
+  pub few : f .rules ≤ bookRules
+  pub less : f .nodes < bookNodes
+  pub own : f .own < ruleNodes
 
 pub record NodePut (counts ops nums : List ℕ) (op num : ℕ) (f : Tally) (counts′ ops′ nums′ : List ℕ) (r : Tally) : Type 0 where
   pub counts-is : counts′ ≡ set counts (f .rules - 1) (f .own + 1)
@@ -50,7 +51,7 @@ pub record NodePut (counts ops nums : List ℕ) (op num : ℕ) (f : Tally) (coun
   pub own-is : r .own ≡ f .own + 1
 
 -- a line's room and what it leaves, by what it holds
-abbrev pub RoomFor : Line → Tables → Tally → Type 0
+abbrev pub RoomFor : Line → BookTables → Tally → Type 0
 RoomFor bad t f = Unit
 RoomFor (rule l k) t f = RuleRoom (t .labels) (t .lens) (t .kinds) (t .firsts) (t .counts) l f
 RoomFor wrong-rule t f = Unit
@@ -60,23 +61,23 @@ RoomFor (step s w) t f = Unit
 RoomFor wrong-step t f = Unit
 
 -- nothing has changed
-pub record Kept (t : Tables) (f : Tally) (t′ : Tables) (f′ : Tally) : Type 0 where
+pub record Kept (t : BookTables) (f : Tally) (t′ : BookTables) (f′ : Tally) : Type 0 where
   pub tables : t′ ≡ t
   pub fill : f′ ≡ f
 
-pub record RuleDone (l : List ℕ) (k : ℕ) (t : Tables) (f : Tally) (t′ : Tables) (f′ : Tally) : Type 0 where
+pub record RuleDone (l : List ℕ) (k : ℕ) (t : BookTables) (f : Tally) (t′ : BookTables) (f′ : Tally) : Type 0 where
   pub put : RulePut (t .labels) (t .lens) (t .kinds) (t .firsts) (t .counts) l k f (t′ .labels) (t′ .lens) (t′ .kinds) (t′ .firsts) (t′ .counts) f′
   pub ops-kept : t′ .ops ≡ t .ops
   pub nums-kept : t′ .nums ≡ t .nums
 
-pub record NodeDone (op v : ℕ) (t : Tables) (f : Tally) (t′ : Tables) (f′ : Tally) : Type 0 where
+pub record NodeDone (op v : ℕ) (t : BookTables) (f : Tally) (t′ : BookTables) (f′ : Tally) : Type 0 where
   pub put : NodePut (t .counts) (t .ops) (t .nums) op v f (t′ .counts) (t′ .ops) (t′ .nums) f′
   pub labels-kept : t′ .labels ≡ t .labels
   pub lens-kept : t′ .lens ≡ t .lens
   pub kinds-kept : t′ .kinds ≡ t .kinds
   pub firsts-kept : t′ .firsts ≡ t .firsts
 
-abbrev pub LeftBy : Line → Tables → Tally → Tables → Tally → Type 0
+abbrev pub LeftBy : Line → BookTables → Tally → BookTables → Tally → Type 0
 LeftBy bad t f t′ f′ = Kept t f t′ f′
 LeftBy (rule l k) t f t′ f′ = RuleDone l k t f t′ f′
 LeftBy wrong-rule t f t′ f′ = Kept t f t′ f′
@@ -85,10 +86,10 @@ LeftBy wrong-node t f t′ f′ = Kept t f t′ f′
 LeftBy (step s w) t f t′ f′ = Kept t f t′ f′
 LeftBy wrong-step t f t′ f′ = Kept t f t′ f′
 
-pub record LineRoom (line : List ℕ) (t : Tables) (f : Tally) : Type 0 where
+pub record LineRoom (line : List ℕ) (t : BookTables) (f : Tally) : Type 0 where
   pub room : RoomFor (parse line) t f
 
-pub record LinePut (line : List ℕ) (t : Tables) (f : Tally) (t′ : Tables) (f′ : Tally) : Type 0 where
+pub record LinePut (line : List ℕ) (t : BookTables) (f : Tally) (t′ : BookTables) (f′ : Tally) : Type 0 where
   pub left : LeftBy (parse line) t f t′ f′
 
 -- what a line that adds nothing holds
@@ -101,14 +102,14 @@ Silent wrong-node = Unit
 Silent (step s w) = Unit
 Silent wrong-step = Unit
 
-pub record Told (line : List ℕ) (r : Bool) : Type 0 where
+pub record ToldLine (line : List ℕ) (r : Bool) : Type 0 where
   pub is : r ≡ true → Silent (parse line)
 
 -- the book is accepted and there is room for it; it is then written
-pub record Fillable (text : List ℕ) (t : Tables) : Type 0 where
+pub record Fillable (text : List ℕ) (t : BookTables) : Type 0 where
   pub book : Book
   pub is : read text ≡ accepted book
   pub room : roomy t ≡ true
 
-pub record Filled (text : List ℕ) (t t′ : Tables) : Type 0 where
+pub record FilledTables (text : List ℕ) (t t′ : BookTables) : Type 0 where
   pub is : (b : Book) → read text ≡ accepted b → t′ ≡ written b t

@@ -1,5 +1,5 @@
 -- The lent tables, and what they hold after a book is read into them.
---     Tables     the rule list (labels of 32 bytes a rule, their lengths, kinds, first places, counts) and the formula table
+--     BookTables     the rule list (labels of 32 bytes a rule, their lengths, kinds, first places, counts) and the formula table
 --     written    the tables with a book in front; every place past it keeps what it held, and so do the bytes behind a label
 --                in the 32 of its rule
 --     readInto   refusal 1, then what the book's bytes say
@@ -8,10 +8,11 @@ use mathlib.Core.List.{List, [], _∷_, _++_, map}
 use Prim.Native.Nat.{ℕ}
 use lib.Dec.{leb}
 use lib.ListN.{length, take, drop}
-use Rattle.number.specs.Number.{pick}
+use Rattle.terms.specs.Limits.{bookNodes, bookRules}
+use Rattle.terms.specs.Choice.{pick}
 use Rattle.book.specs.Book.{Book, Outcome, accepted, refused, read}
 
-pub record Tables : Type 0 where
+pub record BookTables : Type 0 where
   pub labels : List ℕ
   pub lens : List ℕ
   pub kinds : List ℕ
@@ -19,6 +20,17 @@ pub record Tables : Type 0 where
   pub counts : List ℕ
   pub ops : List ℕ
   pub nums : List ℕ
+
+abbrev pub columns : List ℕ → List ℕ → List ℕ → List ℕ → List ℕ → List ℕ → List ℕ → BookTables
+columns labels lens kinds firsts counts ops nums = record {
+  labels = labels;
+  lens = lens;
+  kinds = kinds;
+  firsts = firsts;
+  counts = counts;
+  ops = ops;
+  nums = nums;
+}
 
 -- a column in front of what a table held past it
 unfoldable pub over : List ℕ → List ℕ → List ℕ
@@ -29,7 +41,7 @@ unfoldable pub cells : List (List ℕ) → List ℕ → List ℕ
 cells [] l = l
 cells (x ∷ xs) l = (x ++ drop (length x) (take 32 l)) ++ cells xs (drop 32 l)
 
-unfoldable pub written : Book → Tables → Tables
+unfoldable pub written : Book → BookTables → BookTables
 written b t = record {
   labels = cells (b .labels) (t .labels);
   lens = over (map length (b .labels)) (t .lens);
@@ -41,20 +53,20 @@ written b t = record {
 }
 
 -- room for 64 rules and 1,024 formula nodes
-unfoldable pub roomy : Tables → Bool
+unfoldable pub roomy : BookTables → Bool
 roomy t =
     leb 2048 (length (t .labels))
-    && (leb 64 (length (t .lens))
-    && (leb 64 (length (t .kinds))
-    && (leb 64 (length (t .firsts))
-    && (leb 64 (length (t .counts))
-    && (leb 1024 (length (t .ops))
-    && leb 1024 (length (t .nums)))))))
+    && (leb bookRules (length (t .lens))
+    && (leb bookRules (length (t .kinds))
+    && (leb bookRules (length (t .firsts))
+    && (leb bookRules (length (t .counts))
+    && (leb bookNodes (length (t .ops))
+    && leb bookNodes (length (t .nums)))))))
 
-unfoldable pub readInto : List ℕ → Tables → Outcome
+unfoldable pub readInto : List ℕ → BookTables → Outcome
 readInto text t = pick (roomy t) (read text) (refused 1 0)
 
 -- the tables afterwards: as before on a refusal
-unfoldable pub after : Outcome → Tables → Tables
+unfoldable pub after : Outcome → BookTables → BookTables
 after (accepted b) t = written b t
 after (refused n k) t = t

@@ -7,8 +7,8 @@ use line::text::upto;
 ghost use mathlib.Core.Path.{_≡_};
 ghost use Prim.Native.Nat.{_+_, _*_, _≤_, _<_};
 ghost use lib.ListN.{length};
-ghost use Rattle.reader.specs.Tables.{Tables};
-ghost use Rattle.reader.specs.Filled.{placed, RuleRoom, RulePut, NodeRoom, NodePut, LineRoom, LinePut, Told, Fillable, Filled};
+ghost use Rattle.reader.specs.Tables.{columns};
+ghost use Rattle.reader.specs.Filled.{placed, RuleRoom, RulePut, NodeRoom, NodePut, LineRoom, LinePut, ToldLine, Fillable, FilledTables};
 
 // The rules begun, the nodes written, and the nodes of the rule in hand.
 pub struct Tally {
@@ -41,7 +41,8 @@ fn put_rule(
     f: Tally,
 ) -> Tally
     requires { ⌜ RuleRoom (now labels) (now lens) (now kinds) (now firsts) (now counts) (now label) f ⌝ }
-    ensures { λ r. ⌜ RulePut (now (labels .entry)) (now (lens .entry)) (now (kinds .entry)) (now (firsts .entry)) (now (counts .entry)) (now (label .entry)) kind f (now (labels .exit)) (now (lens .exit)) (now (kinds .exit)) (now (firsts .exit)) (now (counts .exit)) r ⌝ }
+    ensures { λ r. ⌜ RulePut (now (labels .entry)) (now (lens .entry)) (now (kinds .entry)) (now (firsts .entry)) (now (counts .entry))
+        (now (label .entry)) kind f (now (labels .exit)) (now (lens .exit)) (now (kinds .exit)) (now (firsts .exit)) (now (counts .exit)) r ⌝ }
 {
     let r = f.rules;
     let n = f.nodes;
@@ -87,7 +88,7 @@ fn put_node(
 
 // Whether the line begins with `s`: of all words only `step` does.
 fn adds_nothing(line: &[u8]) -> bool
-    ensures { λ r. ⌜ Told (now (line .entry)) r ⌝ }
+    ensures { λ r. ⌜ ToldLine (now (line .entry)) r ⌝ }
 {
     if line.len() == 0 {
         return false;
@@ -107,8 +108,11 @@ fn put_line(
     nums: &mut [u64],
     f: Tally,
 ) -> Tally
-    requires { ⌜ LineRoom (now line) (record { labels = now labels; lens = now lens; kinds = now kinds; firsts = now firsts; counts = now counts; ops = now ops; nums = now nums }) f ⌝ }
-    ensures { λ r. ⌜ LinePut (now (line .entry)) (record { labels = now (labels .entry); lens = now (lens .entry); kinds = now (kinds .entry); firsts = now (firsts .entry); counts = now (counts .entry); ops = now (ops .entry); nums = now (nums .entry) }) f (record { labels = now (labels .exit); lens = now (lens .exit); kinds = now (kinds .exit); firsts = now (firsts .exit); counts = now (counts .exit); ops = now (ops .exit); nums = now (nums .exit) }) r ⌝ }
+    requires { ⌜ LineRoom (now line) (columns (now labels) (now lens) (now kinds) (now firsts) (now counts) (now ops) (now nums)) f ⌝ }
+    ensures { λ r. ⌜ LinePut (now (line .entry))
+        (columns (now (labels .entry)) (now (lens .entry)) (now (kinds .entry)) (now (firsts .entry)) (now (counts .entry)) (now (ops .entry))
+        (now (nums .entry))) f (columns (now (labels .exit)) (now (lens .exit)) (now (kinds .exit)) (now (firsts .exit)) (now (counts .exit))
+        (now (ops .exit)) (now (nums .exit))) r ⌝ }
 {
     let l = read_line(line);
     match l {
@@ -123,7 +127,7 @@ fn put_line(
 }
 
 // All lines up to the first step; behind it an accepted book has nothing but steps.
-pub fn fill(
+pub(crate) fn fill(
     text: &[u8],
     labels: &mut [u8],
     lens: &mut [usize],
@@ -133,8 +137,11 @@ pub fn fill(
     ops: &mut [u8],
     nums: &mut [u64],
 )
-    requires { ⌜ Fillable (now text) (record { labels = now labels; lens = now lens; kinds = now kinds; firsts = now firsts; counts = now counts; ops = now ops; nums = now nums }) ⌝ }
-    ensures { λ _. ⌜ Filled (now (text .entry)) (record { labels = now (labels .entry); lens = now (lens .entry); kinds = now (kinds .entry); firsts = now (firsts .entry); counts = now (counts .entry); ops = now (ops .entry); nums = now (nums .entry) }) (record { labels = now (labels .exit); lens = now (lens .exit); kinds = now (kinds .exit); firsts = now (firsts .exit); counts = now (counts .exit); ops = now (ops .exit); nums = now (nums .exit) }) ⌝ }
+    requires { ⌜ Fillable (now text) (columns (now labels) (now lens) (now kinds) (now firsts) (now counts) (now ops) (now nums)) ⌝ }
+    ensures { λ _. ⌜ FilledTables (now (text .entry))
+        (columns (now (labels .entry)) (now (lens .entry)) (now (kinds .entry)) (now (firsts .entry)) (now (counts .entry)) (now (ops .entry))
+        (now (nums .entry))) (columns (now (labels .exit)) (now (lens .exit)) (now (kinds .exit)) (now (firsts .exit)) (now (counts .exit))
+        (now (ops .exit)) (now (nums .exit))) ⌝ }
 {
     let mut f = Tally {
         rules: 0,

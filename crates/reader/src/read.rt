@@ -2,7 +2,9 @@
 use crate::fill::fill;
 use book::check::Checked;
 use book::check::check;
-ghost use Rattle.reader.specs.Tables.{Tables};
+use terms::limit::BOOK_NODES;
+use terms::limit::BOOK_RULES;
+ghost use Rattle.reader.specs.Tables.{columns};
 ghost use Rattle.reader.specs.Answer.{Roomy, Reads};
 
 // What the book holds and where its step lines begin, or document 01's number and line.
@@ -29,8 +31,11 @@ fn read_roomy(
     ops: &mut [u8],
     nums: &mut [u64],
 ) -> Answer
-    requires { ⌜ Roomy (record { labels = now labels; lens = now lens; kinds = now kinds; firsts = now firsts; counts = now counts; ops = now ops; nums = now nums }) ⌝ }
-    ensures { λ r. ⌜ Reads (now (text .entry)) (record { labels = now (labels .entry); lens = now (lens .entry); kinds = now (kinds .entry); firsts = now (firsts .entry); counts = now (counts .entry); ops = now (ops .entry); nums = now (nums .entry) }) r (record { labels = now (labels .exit); lens = now (lens .exit); kinds = now (kinds .exit); firsts = now (firsts .exit); counts = now (counts .exit); ops = now (ops .exit); nums = now (nums .exit) }) ⌝ }
+    requires { ⌜ Roomy (columns (now labels) (now lens) (now kinds) (now firsts) (now counts) (now ops) (now nums)) ⌝ }
+    ensures { λ r. ⌜ Reads (now (text .entry))
+        (columns (now (labels .entry)) (now (lens .entry)) (now (kinds .entry)) (now (firsts .entry)) (now (counts .entry)) (now (ops .entry))
+        (now (nums .entry))) r (columns (now (labels .exit)) (now (lens .exit)) (now (kinds .exit)) (now (firsts .exit)) (now (counts .exit))
+        (now (ops .exit)) (now (nums .exit))) ⌝ }
 {
     let c = check(text);
     match c {
@@ -57,27 +62,30 @@ fn read_tested(
     ops: &mut [u8],
     nums: &mut [u64],
 ) -> Answer
-    ensures { λ r. ⌜ Reads (now (text .entry)) (record { labels = now (labels .entry); lens = now (lens .entry); kinds = now (kinds .entry); firsts = now (firsts .entry); counts = now (counts .entry); ops = now (ops .entry); nums = now (nums .entry) }) r (record { labels = now (labels .exit); lens = now (lens .exit); kinds = now (kinds .exit); firsts = now (firsts .exit); counts = now (counts .exit); ops = now (ops .exit); nums = now (nums .exit) }) ⌝ }
+    ensures { λ r. ⌜ Reads (now (text .entry))
+        (columns (now (labels .entry)) (now (lens .entry)) (now (kinds .entry)) (now (firsts .entry)) (now (counts .entry)) (now (ops .entry))
+        (now (nums .entry))) r (columns (now (labels .exit)) (now (lens .exit)) (now (kinds .exit)) (now (firsts .exit)) (now (counts .exit))
+        (now (ops .exit)) (now (nums .exit))) ⌝ }
 {
     if labels.len() < 2048 {
         return Answer::Refused { number: 1, line: 0 };
     }
-    if lens.len() < 64 {
+    if lens.len() < BOOK_RULES {
         return Answer::Refused { number: 1, line: 0 };
     }
-    if kinds.len() < 64 {
+    if kinds.len() < BOOK_RULES {
         return Answer::Refused { number: 1, line: 0 };
     }
-    if firsts.len() < 64 {
+    if firsts.len() < BOOK_RULES {
         return Answer::Refused { number: 1, line: 0 };
     }
-    if counts.len() < 64 {
+    if counts.len() < BOOK_RULES {
         return Answer::Refused { number: 1, line: 0 };
     }
-    if ops.len() < 1024 {
+    if ops.len() < BOOK_NODES {
         return Answer::Refused { number: 1, line: 0 };
     }
-    if nums.len() < 1024 {
+    if nums.len() < BOOK_NODES {
         return Answer::Refused { number: 1, line: 0 };
     }
     read_roomy(text, labels, lens, kinds, firsts, counts, ops, nums)
@@ -94,7 +102,10 @@ pub fn read_book(
     ops: &mut [u8],
     nums: &mut [u64],
 ) -> Answer
-    ensures { λ r. ⌜ Reads (now (text .entry)) (record { labels = now (labels .entry); lens = now (lens .entry); kinds = now (kinds .entry); firsts = now (firsts .entry); counts = now (counts .entry); ops = now (ops .entry); nums = now (nums .entry) }) r (record { labels = now (labels .exit); lens = now (lens .exit); kinds = now (kinds .exit); firsts = now (firsts .exit); counts = now (counts .exit); ops = now (ops .exit); nums = now (nums .exit) }) ⌝ }
+    ensures { λ r. ⌜ Reads (now (text .entry))
+        (columns (now (labels .entry)) (now (lens .entry)) (now (kinds .entry)) (now (firsts .entry)) (now (counts .entry)) (now (ops .entry))
+        (now (nums .entry))) r (columns (now (labels .exit)) (now (lens .exit)) (now (kinds .exit)) (now (firsts .exit)) (now (counts .exit))
+        (now (ops .exit)) (now (nums .exit))) ⌝ }
 {
     read_tested(text, labels, lens, kinds, firsts, counts, ops, nums)
 }

@@ -3,6 +3,7 @@
 use libc::STDOUT_FILENO;
 use listing::whole::Listed;
 use listing::whole::list_book;
+use terms::limit::LISTING_BYTES;
 
 // More than any text's length: there is none.
 const NONE: usize = 1000000;
@@ -99,7 +100,7 @@ fn replay(books: i32, answers: i32, k: usize) -> usize {
     }
     let mut answer = io::large_buffer();
     let m = next_text(answers, &mut answer);
-    let mut out = [0u8; 262144];
+    let mut out = [0u8; LISTING_BYTES];
     let r = list(&text, n, &mut out);
     show(k);
     if agree(&out, r, &answer, m) {

@@ -17,13 +17,13 @@ use Rattle.monitor.specs.Mon.{Mon, rows}
 use Rattle.monitor.specs.Compile.{ruleFaults, ruleNode}
 use Rattle.compiler.specs.Compiled.{firstOr, compileFormula, compileCall}
 use Rattle.compiler.specs.Compiled as compiling
-use Rattle.compiled.proofs.ReadsBack.{Reads, compiled-reads}
+use Rattle.compiler_laws.proofs.ReadsBack.{ReadsRule, compiled-reads}
 use Rattle.meaning.specs.Calls.{accepted, Below}
 use Rattle.meaning.specs.Demand.{Lent, Demand}
 use Rattle.meaning.specs.State.{fresh}
 use Rattle.meaning.proofs.Machines.{meets}
 use Rattle.node_step.specs.Memory.{Memory}
-use Rattle.lent.specs.Lent.{Tables, Monitor, lentOf, tableRoom, monitorRoom, ruleMon, HoldsRule, Ready}
+use Rattle.lent.specs.Lent.{LentTables, LentMonitor, lentOf, tableRoom, monitorRoom, ruleMon, HoldsRule, Ready}
 use Rattle.lent.proofs.Standings.{lent-parts}
 use Rattle.stepping.specs.Walk.{readMon}
 use Rattle.stepping.specs.Fresh.{Making, freshOf, orShort, makeMon, making}
@@ -32,7 +32,7 @@ use Rattle.reports.specs.Calls.{Event, step-call, onSlices, ReadsAs, com
 use Rattle.reports.proofs.Following.{lawful}
 
 -- ---- what `fresh` made
-pub record MadeOf (t : Tables) (forms bounds : List ℕ) (mem : Memory) (n : ℕ) (m : Mon) : Type 0 where
+pub record MadeOf (t : LentTables) (forms bounds : List ℕ) (mem : Memory) (n : ℕ) (m : Mon) : Type 0 where
   pub counted : n ≡ t .ncount
   pub holds : HoldsRule t m
   pub room : monitorRoom forms bounds mem ≡ true
@@ -44,7 +44,7 @@ given-inj e = cc
 not-given : {B : Type 0} {n k : ℕ} → _≡_ {A = Result ℕ} (refused k) (given n) → B
 not-given e = let z : _≡_ {A = ℕ} 0 1 = cc in absurd (omega arith)
 
-module _ (t : Tables) (forms bounds : List ℕ) (mem : Memory) (n : ℕ) (m : Mon) (own : ruleMon t ≡ some m) where
+module _ (t : LentTables) (forms bounds : List ℕ) (mem : Memory) (n : ℕ) (m : Mon) (own : ruleMon t ≡ some m) where
   made-by : (b : Bool) → lentOf (t .ops) (t .nums) (t .nodes) forms bounds mem ≡ b → (c : Making) → c ≡ orShort b forms bounds mem (makeMon (some m) t forms bounds mem) → c .answer ≡ given n → (n ≡ t .ncount) × HoldsRule t m × (monitorRoom forms bounds mem ≡ true) × (madeMonitor n c ≡ freshOf t (record { size = 0; forms = forms; bounds = bounds; memory = mem }))
   made-by false l c e q = not-given (sym (ap (λ (x : Making). x .answer) e) ∙ q)
   made-by true l c e q =
@@ -79,19 +79,19 @@ compiled-room ops nums first count out n compiles = go (roomy ops nums && leb 17
     go false w q = not-given q
 
 -- ---- the calls of the rule's own tables
-own-call : (t : Tables) (m : Mon) → HoldsRule t m → (s w : ℕ) → s < 9223372036854775808 → (e : Event) × Lent onSlices m e × (onSlices .asks e ≡ accepted s w ∷ [])
+own-call : (t : LentTables) (m : Mon) → HoldsRule t m → (s w : ℕ) → s < 9223372036854775808 → (e : Event) × Lent onSlices m e × (onSlices .asks e ≡ accepted s w ∷ [])
 unfolding Below
 own-call t m a s w h = (step-call t s w, record { own = a .rule; roomy = a .room; below = (h, tt) }, refl)
 
 pub demand-three : DemandThree
 demand-three ops nums first count f is-f out n compiles forms bounds mem made =
-    let t : Tables = compiledTables ops nums first count out n in
+    let t : LentTables = compiledTables ops nums first count out n in
     let c = compiled-reads ops nums first count out n compiles in
     let same : c .formula ≡ f = some-inj (sym (c .rule) ∙ is-f) in
     let own : ruleMon t ≡ some (ruleNode f first) = c .reads ∙ ap (λ (g : Formula). some (ruleNode g first)) same in
     let x = made-of t forms bounds mem n (ruleNode f first) own made in
-    let k₀ : Monitor = record { size = 0; forms = forms; bounds = bounds; memory = mem } in
+    let k₀ : LentMonitor = record { size = 0; forms = forms; bounds = bounds; memory = mem } in
     meets onSlices f first (ReadsAs (ruleNode f first)) (λ k. Ready k (ruleNode f first)) (lawful (ruleNode f first)) (madeMonitor n (making t forms bounds mem))
-    (ap (λ (k : Monitor). readMon (ruleNode f first) (k .memory) 0) (x .is) ∙ fresh-state t k₀ (ruleNode f first) (x .holds) (x .room))
-    (subst (λ (k : Monitor). Ready k (ruleNode f first)) (sym (x .is)) (fresh-ready t k₀ (ruleNode f first) (x .holds) (x .room)))
+    (ap (λ (k : LentMonitor). readMon (ruleNode f first) (k .memory) 0) (x .is) ∙ fresh-state t k₀ (ruleNode f first) (x .holds) (x .room))
+    (subst (λ (k : LentMonitor). Ready k (ruleNode f first)) (sym (x .is)) (fresh-ready t k₀ (ruleNode f first) (x .holds) (x .room)))
     (own-call t (ruleNode f first) (x .holds))

@@ -15,7 +15,7 @@ use Rattle.meaning.specs.Calls as calls
 use Rattle.meaning.specs.Demand.{Fair, Lent}
 use Rattle.meaning.proofs.Machines.{Lawful}
 use Rattle.node_step.specs.Memory.{Memory}
-use Rattle.lent.specs.Lent.{Tables, Monitor, ruleMon, HoldsRule, Ready}
+use Rattle.lent.specs.Lent.{LentTables, LentMonitor, ruleMon, HoldsRule, Ready}
 use Rattle.stepping.specs.Walk.{readMon}
 use Rattle.stepping.specs.Call.{Stepping, stepCall, with}
 use Rattle.stepping.proofs.Staying.{stays-ready, Answered, no-step, steps as stepped, answered, refused-leaves, accepted-windows}
@@ -25,7 +25,7 @@ use Rattle.runs.proofs.Runs.{is-calls, all-accepted, refused-untouched, fits-ag
 use Rattle.reports.specs.Calls.{Event, step-call, run-call, inTurn, callsBy, stepReport, runReport, callsOf, reportOf, after, onSlices, ReadsAs}
 
 -- ---- one accepted call of `step`, over the rule's own table
-module _ (m : Mon) (t : Tables) (own : ruleMon t ≡ some m) (k : Monitor) (s w : ℕ) (st : State m) (r : ReadsAs m k st) where
+module _ (m : Mon) (t : LentTables) (own : ruleMon t ≡ some m) (k : LentMonitor) (s w : ℕ) (st : State m) (r : ReadsAs m k st) where
   accepted-step : (b : Bool) → stepCall t k s w .answer ≡ given b → (readMon m (stepCall t k s w .memory) 0 ≡ step m st s w .state) × (b ≡ newlyFailed m st s w)
   accepted-step b q =
       let x = accepted-windows t k s w b q in
@@ -34,7 +34,7 @@ module _ (m : Mon) (t : Tables) (own : ruleMon t ≡ some m) (k : Monitor) (s w 
       (a ∙ ap (λ (y : State m). step m y s w .state) r, c ∙ ap (λ (y : State m). newlyFailed m y s w) r)
 
 -- an accepted call went over tables with room, below 2^63
-pub accepted-room : (m : Mon) (t : Tables) (k : Monitor) (s w : ℕ) (b : Bool) →
+pub accepted-room : (m : Mon) (t : LentTables) (k : LentMonitor) (s w : ℕ) (b : Bool) →
     ruleMon t ≡ some m → stepCall t k s w .answer ≡ given b → HoldsRule t m × (s < 9223372036854775808)
 accepted-room m t k s w b own q = go (answered t k s w)
   where
@@ -50,7 +50,7 @@ report-cond true s = refl
 report-cond false s = refl
 
 -- ---- a call of `step`
-module _ (m : Mon) (t : Tables) (s w : ℕ) (k : Monitor) where
+module _ (m : Mon) (t : LentTables) (s w : ℕ) (k : LentMonitor) where
   abbrev one : List Call
   one = accepted s w ∷ []
 
@@ -92,7 +92,7 @@ report-first v true x y q = ap (λ (r : Result Bool). onReport r x y) q
 report-first v false x y q = ap (λ (r : Result Bool). onReport r x y) q
 
 -- accepted calls one behind the other
-many : (m : Mon) (t : Tables) → ruleMon t ≡ some m → (ws : List ℕ) (k : Monitor) (s : ℕ) (st : State m) → ReadsAs m k st → Each Accepts (answersOf t k s ws) → (readMon m (memoryAfter t k s ws) 0 ≡ stepAll m st (inTurn s ws)) × (firstReport s (answersOf t k s ws) ≡ calls.reportOf m st (inTurn s ws))
+many : (m : Mon) (t : LentTables) → ruleMon t ≡ some m → (ws : List ℕ) (k : LentMonitor) (s : ℕ) (st : State m) → ReadsAs m k st → Each Accepts (answersOf t k s ws) → (readMon m (memoryAfter t k s ws) 0 ≡ stepAll m st (inTurn s ws)) × (firstReport s (answersOf t k s ws) ≡ calls.reportOf m st (inTurn s ws))
 unfolding answersOf memoryAfter firstReport inTurn stepAll calls.reportOf Each
 many m t own [] k s st r e = (r, refl)
 many m t own (w ∷ ws) k s st r e =
@@ -112,7 +112,7 @@ unfolding Below inTurn
 below-all [] s w h = omega (arith, h .0)
 below-all (v ∷ ws) s w h = omega (arith, below-all ws (s + 1) v (h .1))
 
-module _ (m : Mon) (t : Tables) (s : ℕ) (k : Monitor) where
+module _ (m : Mon) (t : LentTables) (s : ℕ) (k : LentMonitor) where
   -- over words that were stepped the rule's own table was lent
   fair-own : (w : ℕ) (ws : List ℕ) (o : Option ℕ) → runCall t k s (w ∷ ws) .answer ≡ given o → Fair onSlices m (run-call t s (w ∷ ws)) k → ruleMon t ≡ some m
   unfolding words inTurn
@@ -163,14 +163,14 @@ module _ (m : Mon) (t : Tables) (s : ℕ) (k : Monitor) where
 pub lawful : (m : Mon) → Lawful onSlices m (ReadsAs m) (λ k. Ready k m)
 lawful m = record { follows = follows; stays = stays; takes = takes }
   where
-    follows : (e : Event) (k : Monitor) (st : State m) → ReadsAs m k st → Fair onSlices m e k → ReadsAs m (after e k) (stepAll m st (callsOf e k)) × (reportOf e k ≡ calls.reportOf m st (callsOf e k))
+    follows : (e : Event) (k : LentMonitor) (st : State m) → ReadsAs m k st → Fair onSlices m e k → ReadsAs m (after e k) (stepAll m st (callsOf e k)) × (reportOf e k ≡ calls.reportOf m st (callsOf e k))
     follows (step-call t s w) k st r f = step-follows m t s w k st r f
     follows (run-call t s ws) k st r f = run-follows m t s k ws st r f
 
-    stays : (e : Event) (k : Monitor) → Ready k m → Fair onSlices m e k → Ready (after e k) m
+    stays : (e : Event) (k : LentMonitor) → Ready k m → Fair onSlices m e k → Ready (after e k) m
     stays (step-call t s w) k d f = step-stays m t s w k d f
     stays (run-call t s ws) k d f = run-stays m t s k ws d f
 
-    takes : (e : Event) (k : Monitor) → Ready k m → Lent onSlices m e → callsOf e k ≡ onSlices .asks e
+    takes : (e : Event) (k : LentMonitor) → Ready k m → Lent onSlices m e → callsOf e k ≡ onSlices .asks e
     takes (step-call t s w) k d g = step-takes m t s w k d g
     takes (run-call t s ws) k d g = run-takes m t s k ws d g

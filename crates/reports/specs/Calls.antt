@@ -18,7 +18,7 @@ use Rattle.meaning.specs.Calls as calls
 use Rattle.meaning.specs.Demand.{Machine, Demand}
 use Rattle.meaning.specs.State.{State}
 use Rattle.node_step.specs.Memory.{Memory}
-use Rattle.lent.specs.Lent.{Tables, Monitor, tableRoom, ruleMon}
+use Rattle.lent.specs.Lent.{LentTables, LentMonitor, tableRoom, ruleMon}
 use Rattle.stepping.specs.Walk.{readMon}
 use Rattle.stepping.specs.Call.{stepCall, with}
 use Rattle.stepping.specs.Fresh.{Making, making}
@@ -26,10 +26,10 @@ use Rattle.runs.specs.Run.{runCall}
 
 -- a call of `step` at s with truths w, or of `run` from s on over words
 pub data Event : Type 0 where
-  step-call : Tables → (s w : ℕ) → Event
-  run-call : Tables → (s : ℕ) → List ℕ → Event
+  step-call : LentTables → (s w : ℕ) → Event
+  run-call : LentTables → (s : ℕ) → List ℕ → Event
 
-abbrev pub tablesOf : Event → Tables
+abbrev pub tablesOf : Event → LentTables
 tablesOf (step-call t s w) = t
 tablesOf (run-call t s ws) = t
 
@@ -58,19 +58,19 @@ abbrev pub runReport : Result (Option ℕ) → Option ℕ
 runReport (given r) = r
 runReport (refused n) = none
 
-abbrev pub callsOf : Event → Monitor → List Call
+abbrev pub callsOf : Event → LentMonitor → List Call
 callsOf (step-call t s w) k = callsBy (stepCall t k s w .answer) (accepted s w ∷ [])
 callsOf (run-call t s ws) k = callsBy (runCall t k s ws .answer) (inTurn s ws)
 
-abbrev pub reportOf : Event → Monitor → Option ℕ
+abbrev pub reportOf : Event → LentMonitor → Option ℕ
 reportOf (step-call t s w) k = stepReport (stepCall t k s w .answer) s
 reportOf (run-call t s ws) k = runReport (runCall t k s ws .answer)
 
-abbrev pub after : Event → Monitor → Monitor
+abbrev pub after : Event → LentMonitor → LentMonitor
 after (step-call t s w) k = with k (stepCall t k s w .memory)
 after (run-call t s ws) k = with k (runCall t k s ws .memory)
 
-abbrev pub onSlices : Machine Monitor Event
+abbrev pub onSlices : Machine LentMonitor Event
 onSlices = record {
   asks = asked;
   Own = λ e m. ruleMon (tablesOf e) ≡ some m;
@@ -81,17 +81,17 @@ onSlices = record {
 }
 
 -- the monitor reads as a state of m
-abbrev pub ReadsAs : (m : Mon) → Monitor → State m → Type 0
+abbrev pub ReadsAs : (m : Mon) → LentMonitor → State m → Type 0
 ReadsAs m k st = readMon m (k .memory) 0 ≡ st
 
 -- ---- from the answers on
 -- the tables after compiling the rule at `first` of `count` nodes into `out`, n nodes
-abbrev pub compiledTables : List ℕ → List ℕ → ℕ → ℕ → List ℕ → ℕ → Tables
+abbrev pub compiledTables : List ℕ → List ℕ → ℕ → ℕ → List ℕ → ℕ → LentTables
 compiledTables ops nums first count out n =
     record { ops = ops; nums = nums; first = first; count = count; nodes = compileCall ops nums first count out .out; nfirst = 0; ncount = n }
 
 -- the monitor of n nodes after making it
-abbrev pub madeMonitor : ℕ → Making → Monitor
+abbrev pub madeMonitor : ℕ → Making → LentMonitor
 madeMonitor n c = record { size = n; forms = c .forms; bounds = c .bounds; memory = c .memory }
 
 -- the rule f compiles to n nodes, and its fresh monitor is made of n nodes in what is lent: demand 3 holds from there on

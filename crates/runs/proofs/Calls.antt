@@ -17,7 +17,7 @@ use Rattle.meaning.specs.State.{step, failed, newlyFailed}
 use Rattle.meaning.proofs.Meaning.{stays-marked, reports-once}
 use Rattle.node_step.specs.Memory.{Memory}
 use Rattle.stepping.specs.Walk.{readMon}
-use Rattle.lent.specs.Lent.{Tables, Monitor, isLent, ruleMon, fits, HoldsRule, Ready}
+use Rattle.lent.specs.Lent.{LentTables, LentMonitor, isLent, ruleMon, fits, HoldsRule, Ready}
 use Rattle.lent.proofs.Standings.{lent-parts, lent-both}
 use Rattle.stepping.specs.Call.{Stepping, accept, stepMon, stepCall, with}
 use Rattle.stepping.specs.Call as one
@@ -47,7 +47,7 @@ none-at [] h i p = let z : _≡_ {A = ℕ} 0 1 = cc in omega arith
 none-at (v ∷ vs) h zero p = h .0 p
 none-at (v ∷ vs) h (suc i) p = none-at vs (h .1) i p
 
-pub reports-inside : (t : Tables) (ws : List ℕ) (k : Monitor) (s i : ℕ) → ReportsAt (answersOf t k s ws) i → i < length ws
+pub reports-inside : (t : LentTables) (ws : List ℕ) (k : LentMonitor) (s i : ℕ) → ReportsAt (answersOf t k s ws) i → i < length ws
 unfolding answersOf
 reports-inside t [] k s i h = let z : _≡_ {A = ℕ} 0 1 = cc in absurd (omega arith)
 reports-inside t (w ∷ ws) k s zero h = omega arith
@@ -79,7 +79,7 @@ finds (refused m ∷ vs) s zero e = let z : _≡_ {A = ℕ} 0 1 = cc in absurd (
 finds (refused m ∷ vs) s (suc i) e = finds vs (s + 1) i e
 
 -- ---- where each call is refused with the same number
-pub all-refused : (t : Tables) (k : Monitor) (n : ℕ) → ((s w : ℕ) → stepCall t k s w ≡ one.refuse n (k .memory)) → (ws : List ℕ) (s : ℕ) → Each (λ v. v ≡ refused n) (answersOf t k s ws)
+pub all-refused : (t : LentTables) (k : LentMonitor) (n : ℕ) → ((s w : ℕ) → stepCall t k s w ≡ one.refuse n (k .memory)) → (ws : List ℕ) (s : ℕ) → Each (λ v. v ≡ refused n) (answersOf t k s ws)
 unfolding Each answersOf
 all-refused t k n h [] s = tt
 all-refused t k n h (w ∷ ws) s = (
@@ -88,26 +88,26 @@ all-refused t k n h (w ∷ ws) s = (
 )
 
 -- ---- a monitor that fits its rule's table: its calls are accepted below 2^63, and refused with 24 from there on
-module _ (t : Tables) (m : Mon) (a : HoldsRule t m) where
-  late-call : (k : Monitor) → Ready k m → (s w : ℕ) → 9223372036854775808 ≤ s → stepCall t k s w ≡ one.refuse 24 (k .memory)
+module _ (t : LentTables) (m : Mon) (a : HoldsRule t m) where
+  late-call : (k : LentMonitor) → Ready k m → (s w : ℕ) → 9223372036854775808 ≤ s → stepCall t k s w ≡ one.refuse 24 (k .memory)
   late-call k d s w h = ready-call t k m a d s w ∙ ap (λ (b : Bool). one.orRefuse b 24 (k .memory) (accept m (k .memory) s w)) (le-ltb s 9223372036854775808 h)
 
-  data Called (k : Monitor) (s w : ℕ) : Type 0 where
+  data Called (k : LentMonitor) (s w : ℕ) : Type 0 where
     taken : stepCall t k s w ≡ accept m (k .memory) s w → Ready (with k (stepCall t k s w .memory)) m → Called k s w
     too-late : stepCall t k s w ≡ one.refuse 24 (k .memory) → Called k s w
 
-  called : (k : Monitor) → Ready k m → (s w : ℕ) → Called k s w
+  called : (k : LentMonitor) → Ready k m → (s w : ℕ) → Called k s w
   called k d s w = go (below-or s 9223372036854775808)
     where
       go : (s < 9223372036854775808) ⊎ (9223372036854775808 ≤ s) → Called k s w
       go (inl h) = let x = stays-ready t k m a d s w h in taken (x .accepted) (x .again)
       go (inr h) = too-late (late-call k d s w h)
 
-  ready-on : (k : Monitor) → Ready k m → (s w : ℕ) → Called k s w → Ready (with k (stepCall t k s w .memory)) m
+  ready-on : (k : LentMonitor) → Ready k m → (s w : ℕ) → Called k s w → Ready (with k (stepCall t k s w .memory)) m
   ready-on k d s w (taken e r) = r
   ready-on k d s w (too-late e) = subst (λ (c : Stepping). Ready (with k (c .memory)) m) (sym e) d
 
-  pub all-accept : (ws : List ℕ) (k : Monitor) (s : ℕ) → Ready k m → inTime s ws ≡ true → Each Accepts (answersOf t k s ws)
+  pub all-accept : (ws : List ℕ) (k : LentMonitor) (s : ℕ) → Ready k m → inTime s ws ≡ true → Each Accepts (answersOf t k s ws)
   unfolding Each answersOf inTime
   all-accept [] k s d h = tt
   all-accept (w ∷ ws) k s d h =
@@ -115,19 +115,19 @@ module _ (t : Tables) (m : Mon) (a : HoldsRule t m) where
       let x = stays-ready t k m a d s w (ltb-true s 9223372036854775808 now) in
       ((newlyFailed m (readMon m (k .memory) 0) s w, ap (λ (c : Stepping). c .answer) (x .accepted)), all-accept ws (with k (stepCall t k s w .memory)) (s + 1) (x .again) later)
 
-  only-late : (k : Monitor) (s w : ℕ) → Called k s w → (n : ℕ) → stepCall t k s w .answer ≡ refused n → n ≡ 24
+  only-late : (k : LentMonitor) (s w : ℕ) → Called k s w → (n : ℕ) → stepCall t k s w .answer ≡ refused n → n ≡ 24
   only-late k s w (taken e r) n q =
       let p : stepCall t k s w .answer ≡ given (newlyFailed m (readMon m (k .memory) 0) s w) = ap (λ (c : Stepping). c .answer) e in
       let z : _≡_ {A = ℕ} 0 1 = cc in
       absurd (omega arith)
   only-late k s w (too-late e) n q = let p : stepCall t k s w .answer ≡ refused 24 = ap (λ (c : Stepping). c .answer) e in cc
 
-  pub each-late : (ws : List ℕ) (k : Monitor) (s : ℕ) → Ready k m → Each (λ v. (n : ℕ) → v ≡ refused n → n ≡ 24) (answersOf t k s ws)
+  pub each-late : (ws : List ℕ) (k : LentMonitor) (s : ℕ) → Ready k m → Each (λ v. (n : ℕ) → v ≡ refused n → n ≡ 24) (answersOf t k s ws)
   unfolding Each answersOf
   each-late [] k s d = tt
   each-late (w ∷ ws) k s d = (only-late k s w (called k d s w), each-late ws (with k (stepCall t k s w .memory)) (s + 1) (ready-on k d s w (called k d s w)))
 
-  late-or-rest : (k : Monitor) → Ready k m → (s w : ℕ) (rest : Bool) (R : Type 0) → (rest ≡ false → R) → (ltb s 9223372036854775808 && rest) ≡ false → (stepCall t k s w .answer ≡ refused 24) ⊎ R
+  late-or-rest : (k : LentMonitor) → Ready k m → (s w : ℕ) (rest : Bool) (R : Type 0) → (rest ≡ false → R) → (ltb s 9223372036854775808 && rest) ≡ false → (stepCall t k s w .answer ≡ refused 24) ⊎ R
   late-or-rest k d s w rest R f h = go (below-or s 9223372036854775808) (ltb s 9223372036854775808) refl h
     where
       go : (s < 9223372036854775808) ⊎ (9223372036854775808 ≤ s) → (b : Bool) → ltb s 9223372036854775808 ≡ b → (b && rest) ≡ false → (stepCall t k s w .answer ≡ refused 24) ⊎ R
@@ -135,7 +135,7 @@ module _ (t : Tables) (m : Mon) (a : HoldsRule t m) where
       go (inl l) true e g = inr (f g)
       go (inl l) false e g = true-false (lt-ltb s 9223372036854775808 l) e
 
-  pub some-late : (ws : List ℕ) (k : Monitor) (s : ℕ) → Ready k m → inTime s ws ≡ false → Some (λ v. v ≡ refused 24) (answersOf t k s ws)
+  pub some-late : (ws : List ℕ) (k : LentMonitor) (s : ℕ) → Ready k m → inTime s ws ≡ false → Some (λ v. v ≡ refused 24) (answersOf t k s ws)
   unfolding Some answersOf inTime
   some-late [] k s d h = true-false refl h
   some-late (w ∷ ws) k s d h = late-or-rest k d s w (inTime (s + 1) ws) (Some (λ v. v ≡ refused 24) (answersOf t (with k (stepCall t k s w .memory)) (s + 1) ws)) (λ e. some-late ws (with k (stepCall t k s w .memory)) (s + 1) (ready-on k d s w (called k d s w)) e) h
@@ -144,16 +144,16 @@ module _ (t : Tables) (m : Mon) (a : HoldsRule t m) where
   abbrev Marked : Memory → Type 0
   Marked mem = failed m (readMon m mem 0) ≡ true
 
-  taken-reads : (k : Monitor) → Ready k m → (s w : ℕ) → stepCall t k s w ≡ accept m (k .memory) s w → readMon m (stepCall t k s w .memory) 0 ≡ step m (readMon m (k .memory) 0) s w .state
+  taken-reads : (k : LentMonitor) → Ready k m → (s w : ℕ) → stepCall t k s w ≡ accept m (k .memory) s w → readMon m (stepCall t k s w .memory) 0 ≡ step m (readMon m (k .memory) 0) s w .state
   taken-reads k d s w e =
       ap (λ (c : Stepping). readMon m (c .memory) 0) e
       ∙ read-back m (step m (readMon m (k .memory) 0) s w .state) (k .memory) 0 (inside-own t k m a d)
 
-  marked-on : (k : Monitor) → Ready k m → (s w : ℕ) → Called k s w → Marked (k .memory) → Marked (stepCall t k s w .memory)
+  marked-on : (k : LentMonitor) → Ready k m → (s w : ℕ) → Called k s w → Marked (k .memory) → Marked (stepCall t k s w .memory)
   marked-on k d s w (taken e r) f = ap (failed m) (taken-reads k d s w e) ∙ stays-marked m (readMon m (k .memory) 0) s w f
   marked-on k d s w (too-late e) f = subst (λ (c : Stepping). Marked (c .memory)) (sym e) f
 
-  marks : (k : Monitor) → Ready k m → (s w : ℕ) → Called k s w → stepCall t k s w .answer ≡ given true → Marked (stepCall t k s w .memory)
+  marks : (k : LentMonitor) → Ready k m → (s w : ℕ) → Called k s w → stepCall t k s w .answer ≡ given true → Marked (stepCall t k s w .memory)
   marks k d s w (taken e r) q =
       let p : stepCall t k s w .answer ≡ given (newlyFailed m (readMon m (k .memory) 0) s w) = ap (λ (c : Stepping). c .answer) e in
       let n : newlyFailed m (readMon m (k .memory) 0) s w ≡ true = cc in
@@ -163,7 +163,7 @@ module _ (t : Tables) (m : Mon) (a : HoldsRule t m) where
       let z : _≡_ {A = ℕ} 0 1 = cc in
       absurd (omega arith)
 
-  silent : (k : Monitor) → (s w : ℕ) → Called k s w → Marked (k .memory) → stepCall t k s w .answer ≡ given true → ⊥
+  silent : (k : LentMonitor) → (s w : ℕ) → Called k s w → Marked (k .memory) → stepCall t k s w .answer ≡ given true → ⊥
   silent k s w (taken e r) f q =
       let p : stepCall t k s w .answer ≡ given (newlyFailed m (readMon m (k .memory) 0) s w) = ap (λ (c : Stepping). c .answer) e in
       let n : newlyFailed m (readMon m (k .memory) 0) s w ≡ true = cc in
@@ -173,15 +173,15 @@ module _ (t : Tables) (m : Mon) (a : HoldsRule t m) where
       let z : _≡_ {A = ℕ} 0 1 = cc in
       omega arith
 
-  quiet-on : (ws : List ℕ) (k : Monitor) (s : ℕ) → Ready k m → Marked (k .memory) → Each (λ v. v ≡ given true → ⊥) (answersOf t k s ws)
+  quiet-on : (ws : List ℕ) (k : LentMonitor) (s : ℕ) → Ready k m → Marked (k .memory) → Each (λ v. v ≡ given true → ⊥) (answersOf t k s ws)
   unfolding Each answersOf
   quiet-on [] k s d f = tt
   quiet-on (w ∷ ws) k s d f = (silent k s w (called k d s w) f, quiet-on ws (with k (stepCall t k s w .memory)) (s + 1) (ready-on k d s w (called k d s w)) (marked-on k d s w (called k d s w) f))
 
-  none-after : (k : Monitor) (s w : ℕ) (ws : List ℕ) → Ready k m → stepCall t k s w .answer ≡ given true → (i : ℕ) → ReportsAt (answersOf t (with k (stepCall t k s w .memory)) (s + 1) ws) i → ⊥
+  none-after : (k : LentMonitor) (s w : ℕ) (ws : List ℕ) → Ready k m → stepCall t k s w .answer ≡ given true → (i : ℕ) → ReportsAt (answersOf t (with k (stepCall t k s w .memory)) (s + 1) ws) i → ⊥
   none-after k s w ws d q = none-at _ (quiet-on ws (with k (stepCall t k s w .memory)) (s + 1) (ready-on k d s w (called k d s w)) (marks k d s w (called k d s w) q))
 
-  pub once : (ws : List ℕ) (k : Monitor) (s : ℕ) → Ready k m → (i j : ℕ) → ReportsAt (answersOf t k s ws) i → ReportsAt (answersOf t k s ws) j → i ≡ j
+  pub once : (ws : List ℕ) (k : LentMonitor) (s : ℕ) → Ready k m → (i j : ℕ) → ReportsAt (answersOf t k s ws) i → ReportsAt (answersOf t k s ws) j → i ≡ j
   unfolding answersOf
   once [] k s d i j p q = let z : _≡_ {A = ℕ} 0 1 = cc in absurd (omega arith)
   once (w ∷ ws) k s d zero zero p q = refl
@@ -190,12 +190,12 @@ module _ (t : Tables) (m : Mon) (a : HoldsRule t m) where
   once (w ∷ ws) k s d (suc i) (suc j) p q = ap suc (once ws (with k (stepCall t k s w .memory)) (s + 1) (ready-on k d s w (called k d s w)) i j p q)
 
   -- a whole run below 2^63
-  pub ready-after : (ws : List ℕ) (k : Monitor) (s : ℕ) → Ready k m → Ready (with k (memoryAfter t k s ws)) m
+  pub ready-after : (ws : List ℕ) (k : LentMonitor) (s : ℕ) → Ready k m → Ready (with k (memoryAfter t k s ws)) m
   unfolding memoryAfter
   ready-after [] k s d = d
   ready-after (w ∷ ws) k s d = ready-after ws (with k (stepCall t k s w .memory)) (s + 1) (ready-on k d s w (called k d s w))
 
-  pub ready-runs : (ws : List ℕ) (k : Monitor) (s : ℕ) → Ready k m → s + length ws ≤ 9223372036854775808 → runCall t k s ws ≡ manySteps t k s ws
+  pub ready-runs : (ws : List ℕ) (k : LentMonitor) (s : ℕ) → Ready k m → s + length ws ≤ 9223372036854775808 → runCall t k s ws ≡ manySteps t k s ws
   unfolding runCall
   ready-runs ws k s d h =
       ap (λ (b : Bool). orRefuse b 1 (k .memory) (runMon (ruleMon t) t k s ws)) (lent-both t k m a d)
@@ -203,12 +203,12 @@ module _ (t : Tables) (m : Mon) (a : HoldsRule t m) where
       ∙ ap₂ (λ (b c : Bool). orRefuse b 2 (k .memory) (orRefuse c 24 (k .memory) (manySteps t k s ws))) (d .fit) (below-in-time s ws h)
 
 -- ---- the three ways that a run goes
-pub data Case (t : Tables) (k : Monitor) (s : ℕ) (ws : List ℕ) (c : Running) : Type 0 where
+pub data Case (t : LentTables) (k : LentMonitor) (s : ℕ) (ws : List ℕ) (c : Running) : Type 0 where
   stops : (n : ℕ) → ((i w : ℕ) → stepCall t k i w ≡ one.refuse n (k .memory)) → c ≡ refuse n (k .memory) → Case t k s ws c
   late : (m : Mon) → HoldsRule t m → Ready k m → inTime s ws ≡ false → c ≡ refuse 24 (k .memory) → Case t k s ws c
   goes : (m : Mon) → HoldsRule t m → Ready k m → inTime s ws ≡ true → c ≡ manySteps t k s ws → Case t k s ws c
 
-pub case-of : (t : Tables) (k : Monitor) (s : ℕ) (ws : List ℕ) → Case t k s ws (runCall t k s ws)
+pub case-of : (t : LentTables) (k : LentMonitor) (s : ℕ) (ws : List ℕ) → Case t k s ws (runCall t k s ws)
 unfolding runCall stepCall
 case-of t k s ws = lent (isLent t k) refl
   where
@@ -233,7 +233,7 @@ case-of t k s ws = lent (isLent t k) refl
     lent true l = known (ruleMon t) refl l
     lent false l = stops 1 (λ i w. ap (λ (b : Bool). one.orRefuse b 1 (k .memory) (stepMon (ruleMon t) k i w)) l) refl
 
-module _ (t : Tables) (k : Monitor) (s : ℕ) (ws : List ℕ) where
+module _ (t : LentTables) (k : LentMonitor) (s : ℕ) (ws : List ℕ) where
   abbrev run : Running
   run = runCall t k s ws
 
@@ -285,7 +285,7 @@ module _ (t : Tables) (k : Monitor) (s : ℕ) (ws : List ℕ) where
     λ (g, h). reports-by (taken-is x g) x i h,
   )
 
-module _ (t : Tables) (k : Monitor) (s w : ℕ) (ws : List ℕ) where
+module _ (t : LentTables) (k : LentMonitor) (s w : ℕ) (ws : List ℕ) where
   abbrev vs : List (Result Bool)
   vs = answersOf t k s (w ∷ ws)
 
@@ -323,16 +323,16 @@ module _ (t : Tables) (k : Monitor) (s w : ℕ) (ws : List ℕ) where
   refused-first (goes m a d i e) n h = absurd (goes-taken t k s (w ∷ ws) e n h)
 
 -- a run that is taken, and after which the monitor fits again
-pub record RunStays (t : Tables) (k : Monitor) (m : Mon) (s : ℕ) (ws : List ℕ) : Type 0 where
+pub record RunStays (t : LentTables) (k : LentMonitor) (m : Mon) (s : ℕ) (ws : List ℕ) : Type 0 where
   pub taken : runCall t k s ws ≡ manySteps t k s ws
   pub again : Ready (with k (runCall t k s ws .memory)) m
 
-pub run-stays : (t : Tables) (k : Monitor) (m : Mon) (s : ℕ) (ws : List ℕ) → HoldsRule t m → Ready k m → s + length ws ≤ 9223372036854775808 → RunStays t k m s ws
+pub run-stays : (t : LentTables) (k : LentMonitor) (m : Mon) (s : ℕ) (ws : List ℕ) → HoldsRule t m → Ready k m → s + length ws ≤ 9223372036854775808 → RunStays t k m s ws
 run-stays t k m s ws a d h =
     let e = ready-runs t m a ws k s d h in
     record { taken = e; again = subst (λ (c : Running). Ready (with k (c .memory)) m) (sym e) (ready-after t m a ws k s d) }
 
-pub without-words : (t : Tables) (k : Monitor) (s other : ℕ) → runCall t k s [] ≡ runCall t k other []
+pub without-words : (t : LentTables) (k : LentMonitor) (s other : ℕ) → runCall t k s [] ≡ runCall t k other []
 unfolding runCall inTime answersOf memoryAfter firstReport
 without-words t k s other = ap (orRefuse (isLent t k) 1 (k .memory)) (go (ruleMon t))
   where

@@ -18,7 +18,7 @@ use Rattle.monitor.specs.Mon.{Mon}
 use Rattle.stepping.specs.declared.call.Verdict.{Verdict}
 use Rattle.stepping.specs.declared.call.Verdict.the-variants.{Accepted, Refused}
 use Rattle.node_step.specs.Memory.{Memory}
-use Rattle.lent.specs.Lent.{Tables, Monitor, isLent, ruleMon, fits, rowsFit, HoldsRule, Ready, Known}
+use Rattle.lent.specs.Lent.{LentTables, LentMonitor, isLent, ruleMon, fits, rowsFit, HoldsRule, Ready, Known}
 use Rattle.lent.proofs.Standings.{fits-by-table, known-ready, known-holds, lent-both}
 use Rattle.stepping.specs.Call.{Stepping, acceptMon, acceptOf, stepCall, Fit}
 use Rattle.stepping.specs.Call as one
@@ -93,8 +93,8 @@ pub record SameRoom (a b : Memory) : Type 0 where
   pub failed : length (a .failed) ≡ length (b .failed)
   pub culprits : length (a .culprits) ≡ length (b .culprits)
 
-module _ (t : Tables) (size : ℕ) (forms bounds : List ℕ) where
-  abbrev pub monOf : Memory → Monitor
+module _ (t : LentTables) (size : ℕ) (forms bounds : List ℕ) where
+  abbrev pub monOf : Memory → LentMonitor
   monOf mem = record { size = size; forms = forms; bounds = bounds; memory = mem }
 
   -- before word i, which is for step `here`: what is still to do leads to the same end
@@ -179,7 +179,7 @@ module _ (t : Tables) (size : ℕ) (forms bounds : List ℕ) where
           }
 
 -- ---- the tests in their order
-module _ (t : Tables) (k : Monitor) (d : Known t k) (s : ℕ) (ws : List ℕ) where
+module _ (t : LentTables) (k : LentMonitor) (d : Known t k) (s : ℕ) (ws : List ℕ) where
   by-rule : runMon (ruleMon t) t k s ws ≡ orRefuse (fits (d .mon) k) 2 (k .memory) (orRefuse (inTime s ws) 24 (k .memory) (manySteps t k s ws))
   by-rule = ap (λ (o : Option Mon). runMon o t k s ws) (d .is)
 
@@ -206,7 +206,7 @@ module _ (t : Tables) (k : Monitor) (d : Known t k) (s : ℕ) (ws : List ℕ) wh
       pub ran-here : (r : RunVerdict) (mem′ : Memory) → c ≡ true → Answers (manySteps t k s ws) r mem′ → Answers (runMon (ruleMon t) t k s ws) r mem′
       ran-here r mem′ z a = subst (λ (x : Running). Answers x r mem′) (sym (fitting ∙ ap (λ (y : Bool). orRefuse y 24 (k .memory) (manySteps t k s ws)) z)) a
 
-module _ (t : Tables) (k : Monitor) (s : ℕ) (ws : List ℕ) (b : Bool) (e : b ≡ isLent t k) where
+module _ (t : LentTables) (k : LentMonitor) (s : ℕ) (ws : List ℕ) (b : Bool) (e : b ≡ isLent t k) where
   pub not-lent : b ≡ false → Answers (runCall t k s ws) (NotRun 1) (k .memory)
   unfolding runCall
   not-lent q = subst (λ (x : Bool). Answers (orRefuse x 1 (k .memory) (runMon (ruleMon t) t k s ws)) (NotRun 1) (k .memory)) (sym (sym e ∙ q)) (record { answers = refl; leaves = refl })

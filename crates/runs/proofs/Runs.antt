@@ -16,13 +16,13 @@ use Prim.Native.Nat.{ℕ, _+_, _≤_}
 use lib.ListN.{length}
 use Rattle.monitor.specs.Mon.{Mon}
 use Rattle.result.specs.Result.{given, refused}
-use Rattle.lent.specs.Lent.{Tables, Monitor, HoldsRule, Ready}
+use Rattle.lent.specs.Lent.{LentTables, LentMonitor, HoldsRule, Ready}
 use Rattle.stepping.specs.Call.{stepCall}
 use Rattle.runs.specs.Run.{answersOf, manySteps, runCall, Taken, Accepts, Each, Lowest, ReportsAt}
 use Rattle.runs.proofs.Calls as calls
 use Rattle.runs.proofs.Calls.{RunStays, case-of}
 
-module _ (t : Tables) (k : Monitor) (s : ℕ) (ws : List ℕ) where
+module _ (t : LentTables) (k : LentMonitor) (s : ℕ) (ws : List ℕ) where
   pub is-calls : Taken (runCall t k s ws) → runCall t k s ws ≡ manySteps t k s ws
   is-calls h = calls.taken-is t k s ws (case-of t k s ws) h
 
@@ -41,10 +41,10 @@ module _ (t : Tables) (k : Monitor) (s : ℕ) (ws : List ℕ) where
   pub fits-again : (m : Mon) → HoldsRule t m → Ready k m → s + length ws ≤ 9223372036854775808 → RunStays t k m s ws
   fits-again m a d h = calls.run-stays t k m s ws a d h
 
-pub no-words : (t : Tables) (k : Monitor) (s other : ℕ) → runCall t k s [] ≡ runCall t k other []
+pub no-words : (t : LentTables) (k : LentMonitor) (s other : ℕ) → runCall t k s [] ≡ runCall t k other []
 no-words t k s other = calls.without-words t k s other
 
-module _ (t : Tables) (k : Monitor) (s w : ℕ) (ws : List ℕ) where
+module _ (t : LentTables) (k : LentMonitor) (s w : ℕ) (ws : List ℕ) where
   pub refused-iff : (n : ℕ) → (runCall t k s (w ∷ ws) .answer ≡ refused n) ↔ Lowest n (answersOf t k s (w ∷ ws))
   refused-iff n = calls.refused-where t k s w ws (case-of t k s (w ∷ ws)) n
 

@@ -15,7 +15,7 @@ use lib.ListN.{getD}
 use Rattle.result.specs.Result.{Result, given, refused}
 use Rattle.monitor.specs.Mon.{Mon}
 use Rattle.node_step.specs.Memory.{Memory}
-use Rattle.lent.specs.Lent.{Tables, Monitor, isLent, ruleMon, fits, Known}
+use Rattle.lent.specs.Lent.{LentTables, LentMonitor, isLent, ruleMon, fits, Known}
 use Rattle.stepping.specs.Call.{stepCall, with}
 use Rattle.runs.specs.declared.RunVerdict.{RunVerdict}
 use Rattle.runs.specs.declared.RunVerdict.the-variants.{Quiet, Reported, Refused as NotRun}
@@ -33,11 +33,11 @@ onReport (given false) a b = b
 onReport (refused n) a b = b
 
 -- ---- calls of `step`, one word each
-unfoldable pub answersOf : Tables → Monitor → ℕ → List ℕ → List (Result Bool)
+unfoldable pub answersOf : LentTables → LentMonitor → ℕ → List ℕ → List (Result Bool)
 answersOf t k s [] = []
 answersOf t k s (w ∷ ws) = stepCall t k s w .answer ∷ answersOf t (with k (stepCall t k s w .memory)) (s + 1) ws
 
-unfoldable pub memoryAfter : Tables → Monitor → ℕ → List ℕ → Memory
+unfoldable pub memoryAfter : LentTables → LentMonitor → ℕ → List ℕ → Memory
 memoryAfter t k s [] = k .memory
 memoryAfter t k s (w ∷ ws) = memoryAfter t (with k (stepCall t k s w .memory)) (s + 1) ws
 
@@ -58,7 +58,7 @@ abbrev pub orRefuse : Bool → ℕ → Memory → Running → Running
 orRefuse true n mem c = c
 orRefuse false n mem c = refuse n mem
 
-abbrev pub manySteps : Tables → Monitor → ℕ → List ℕ → Running
+abbrev pub manySteps : LentTables → LentMonitor → ℕ → List ℕ → Running
 manySteps t k s ws = record { answer = given (firstReport s (answersOf t k s ws)); memory = memoryAfter t k s ws }
 
 -- each step that a word is handed over at is below 2^63
@@ -66,13 +66,13 @@ unfoldable pub inTime : ℕ → List ℕ → Bool
 inTime s [] = true
 inTime s (w ∷ ws) = ltb s 9223372036854775808 && inTime (s + 1) ws
 
-abbrev pub runMon : Option Mon → Tables → Monitor → ℕ → List ℕ → Running
+abbrev pub runMon : Option Mon → LentTables → LentMonitor → ℕ → List ℕ → Running
 runMon none t k s ws = refuse 2 (k .memory)
 runMon (some m) t k s ws =
     orRefuse (fits m k) 2 (k .memory) (orRefuse (inTime s ws) 24 (k .memory) (manySteps t k s ws))
 
 -- the answer to a run, for whatever is lent: 1, then 2, then 24, else that many calls of `step`
-unfoldable pub runCall : Tables → Monitor → ℕ → List ℕ → Running
+unfoldable pub runCall : LentTables → LentMonitor → ℕ → List ℕ → Running
 runCall t k s ws = orRefuse (isLent t k) 1 (k .memory) (runMon (ruleMon t) t k s ws)
 
 pub record Answers (c : Running) (r : RunVerdict) (mem : Memory) : Type 0 where
@@ -81,7 +81,7 @@ pub record Answers (c : Running) (r : RunVerdict) (mem : Memory) : Type 0 where
 
 -- ---- parts
 -- the tables hold a compiled rule, the monitor fits it, and no step is late
-pub record RunFit (t : Tables) (k : Monitor) (s : ℕ) (ws : List ℕ) : Type 0 where
+pub record RunFit (t : LentTables) (k : LentMonitor) (s : ℕ) (ws : List ℕ) : Type 0 where
   pub known : Known t k
   pub shaped : fits (known .mon) k ≡ true
   pub timely : inTime s ws ≡ true

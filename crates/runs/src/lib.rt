@@ -4,10 +4,12 @@ use lent::shape::is_fit;
 use monitor::table::is_compiled;
 use stepping::call::Verdict;
 use stepping::call::step_fit;
+use terms::limit::STEPS;
 ghost use mathlib.Core.Path.{_≡_};
-ghost use Rattle.lent.specs.Lent.{Known, ruleMon};
+ghost use Rattle.lent.specs.Lent.{Known, ruleMon, monitorOf, tables};
 ghost use Rattle.stepping.specs.Call.{resultOf};
 ghost use Rattle.runs.specs.Run.{Answers, RunFit, firstOf, inTime, manySteps, onReport, runCall, runMon};
+ghost use Rattle.node_step.specs.Memory.{entries};
 
 // No word was reported; or the step of the first that was; or the refusal of the whole run.
 pub enum RunVerdict {
@@ -23,8 +25,8 @@ fn in_time(s: u64, words: &[u64]) -> bool
     if words.len() == 0 {
         return true;
     }
-    if s < 9223372036854775808 {
-        return words.len() as u64 <= 9223372036854775808 - s;
+    if s < STEPS {
+        return words.len() as u64 <= STEPS - s;
     }
     false
 }
@@ -72,8 +74,12 @@ fn run_fit(
     s: u64,
     words: &[u64],
 ) -> RunVerdict
-    requires { ⌜ RunFit (record { ops = now ops; nums = now nums; first = first; count = count; nodes = now nodes; nfirst = nfirst; ncount = ncount }) (record { size = size; forms = now forms; bounds = now bounds; memory = record { held = now held; remaining = now remaining; failed = now failed; culprits = now culprits } }) s (now words) ⌝ }
-    ensures { λ r. ⌜ Answers (manySteps (record { ops = now (ops .entry); nums = now (nums .entry); first = first; count = count; nodes = now (nodes .entry); nfirst = nfirst; ncount = ncount }) (record { size = size; forms = now (forms .entry); bounds = now (bounds .entry); memory = record { held = now (held .entry); remaining = now (remaining .entry); failed = now (failed .entry); culprits = now (culprits .entry) } }) s (now (words .entry))) r (record { held = now (held .exit); remaining = now (remaining .exit); failed = now (failed .exit); culprits = now (culprits .exit) }) ⌝ }
+    requires { ⌜ RunFit (tables (now ops) (now nums) first count (now nodes) nfirst ncount)
+        (monitorOf size (now forms) (now bounds) (entries (now held) (now remaining) (now failed) (now culprits))) s (now words) ⌝ }
+    ensures { λ r. ⌜ Answers (manySteps (tables (now (ops .entry)) (now (nums .entry)) first count (now (nodes .entry)) nfirst ncount)
+        (monitorOf size (now (forms .entry)) (now (bounds .entry))
+        (entries (now (held .entry)) (now (remaining .entry)) (now (failed .entry)) (now (culprits .entry)))) s (now (words .entry))) r
+        (entries (now (held .exit)) (now (remaining .exit)) (now (failed .exit)) (now (culprits .exit))) ⌝ }
 {
     let mut r = RunVerdict::Quiet;
     let mut at = s;
@@ -123,8 +129,13 @@ fn run_compiled(
     s: u64,
     words: &[u64],
 ) -> RunVerdict
-    requires { ⌜ Known (record { ops = now ops; nums = now nums; first = first; count = count; nodes = now nodes; nfirst = nfirst; ncount = ncount }) (record { size = size; forms = now forms; bounds = now bounds; memory = record { held = now held; remaining = now remaining; failed = now failed; culprits = now culprits } }) ⌝ }
-    ensures { λ r. ⌜ Answers (runMon (ruleMon (record { ops = now (ops .entry); nums = now (nums .entry); first = first; count = count; nodes = now (nodes .entry); nfirst = nfirst; ncount = ncount })) (record { ops = now (ops .entry); nums = now (nums .entry); first = first; count = count; nodes = now (nodes .entry); nfirst = nfirst; ncount = ncount }) (record { size = size; forms = now (forms .entry); bounds = now (bounds .entry); memory = record { held = now (held .entry); remaining = now (remaining .entry); failed = now (failed .entry); culprits = now (culprits .entry) } }) s (now (words .entry))) r (record { held = now (held .exit); remaining = now (remaining .exit); failed = now (failed .exit); culprits = now (culprits .exit) }) ⌝ }
+    requires { ⌜ Known (tables (now ops) (now nums) first count (now nodes) nfirst ncount)
+        (monitorOf size (now forms) (now bounds) (entries (now held) (now remaining) (now failed) (now culprits))) ⌝ }
+    ensures { λ r. ⌜ Answers (runMon (ruleMon (tables (now (ops .entry)) (now (nums .entry)) first count (now (nodes .entry)) nfirst ncount))
+        (tables (now (ops .entry)) (now (nums .entry)) first count (now (nodes .entry)) nfirst ncount)
+        (monitorOf size (now (forms .entry)) (now (bounds .entry))
+        (entries (now (held .entry)) (now (remaining .entry)) (now (failed .entry)) (now (culprits .entry)))) s (now (words .entry))) r
+        (entries (now (held .exit)) (now (remaining .exit)) (now (failed .exit)) (now (culprits .exit))) ⌝ }
 {
     if is_fit(
         nodes,
@@ -182,7 +193,10 @@ pub fn run(
     s: u64,
     words: &[u64],
 ) -> RunVerdict
-    ensures { λ r. ⌜ Answers (runCall (record { ops = now (ops .entry); nums = now (nums .entry); first = first; count = count; nodes = now (nodes .entry); nfirst = nfirst; ncount = ncount }) (record { size = size; forms = now (forms .entry); bounds = now (bounds .entry); memory = record { held = now (held .entry); remaining = now (remaining .entry); failed = now (failed .entry); culprits = now (culprits .entry) } }) s (now (words .entry))) r (record { held = now (held .exit); remaining = now (remaining .exit); failed = now (failed .exit); culprits = now (culprits .exit) }) ⌝ }
+    ensures { λ r. ⌜ Answers (runCall (tables (now (ops .entry)) (now (nums .entry)) first count (now (nodes .entry)) nfirst ncount)
+        (monitorOf size (now (forms .entry)) (now (bounds .entry))
+        (entries (now (held .entry)) (now (remaining .entry)) (now (failed .entry)) (now (culprits .entry)))) s (now (words .entry))) r
+        (entries (now (held .exit)) (now (remaining .exit)) (now (failed .exit)) (now (culprits .exit))) ⌝ }
 {
     if is_lent(
         ops,

@@ -1,11 +1,14 @@
 // The rules of a book compiled into one node table. A rule has no more nodes than its formula: its rows begin at its formula's own place.
 use compiler::Compiled;
 use compiler::compile_formula;
+use terms::limit::BOOK_NODES;
+use terms::limit::BOOK_RULES;
 ghost use Prim.Native.Nat.{_≤_, _<_};
+ghost use Rattle.terms.specs.Limits.{bookRules};
 
 // Compiles the rule at `first` into the rows from row `first` on.
 fn compile_at(ops: &[u8], nums: &[u64], first: usize, count: usize, nodes: &mut [u64]) -> Compiled {
-    if 1024 < first {
+    if BOOK_NODES < first {
         return Compiled::Refused(2);
     }
     let from = 7 * first;
@@ -19,12 +22,12 @@ fn compile_at(ops: &[u8], nums: &[u64], first: usize, count: usize, nodes: &mut 
 fn compile_one(
     ops: &[u8],
     nums: &[u64],
-    firsts: &[usize; 64],
-    counts: &[usize; 64],
+    firsts: &[usize; BOOK_RULES],
+    counts: &[usize; BOOK_RULES],
     r: usize,
     nodes: &mut [u64],
-    ncounts: &mut [usize; 64],
-    refusals: &mut [u64; 64],
+    ncounts: &mut [usize; BOOK_RULES],
+    refusals: &mut [u64; BOOK_RULES],
 )
     requires { ⌜ r < 64 ⌝ }
 {
@@ -39,17 +42,17 @@ fn compile_one(
 }
 
 // Compiles the first n rules.
-pub fn compile_rules(
+pub(crate) fn compile_rules(
     ops: &[u8],
     nums: &[u64],
-    firsts: &[usize; 64],
-    counts: &[usize; 64],
+    firsts: &[usize; BOOK_RULES],
+    counts: &[usize; BOOK_RULES],
     n: usize,
     nodes: &mut [u64],
-    ncounts: &mut [usize; 64],
-    refusals: &mut [u64; 64],
+    ncounts: &mut [usize; BOOK_RULES],
+    refusals: &mut [u64; BOOK_RULES],
 )
-    requires { ⌜ n ≤ 64 ⌝ }
+    requires { ⌜ n ≤ bookRules ⌝ }
 {
     let mut r: usize = 0;
     while r < n {

@@ -9,24 +9,27 @@ use crate::show::show_alike;
 use crate::show::show_number;
 use crate::show::show_refused;
 use crate::show::show_rules;
-use layout::book::Laid;
+use layout::book::BookLayout;
 use layout::book::layout;
 use libc::STDIN_FILENO;
 use libc::STDOUT_FILENO;
 use reader::read::Answer;
 use reader::read::read_book;
+use terms::limit::BOOK_NODES;
+use terms::limit::BOOK_RULES;
 ghost use Prim.Native.Nat.{_≤_};
+ghost use Rattle.terms.specs.Limits.{bookRules};
 
 // First bits and bits of the n rules; or the refusal is shown.
 fn lay_out(
     ops: &[u8],
     nums: &[u64],
     kinds: &[u8],
-    firsts: &[usize; 64],
-    counts: &[usize; 64],
+    firsts: &[usize; BOOK_RULES],
+    counts: &[usize; BOOK_RULES],
     nodes: &[u64],
-    ncounts: &[usize; 64],
-    refusals: &[u64; 64],
+    ncounts: &[usize; BOOK_RULES],
+    refusals: &[u64; BOOK_RULES],
     n: usize,
     starts: &mut [u64],
     bits: &mut [u64],
@@ -45,8 +48,8 @@ fn lay_out(
         starts,
         bits,
     ) {
-        Laid::Refused(m) => show_refused(b"layout", m),
-        Laid::Done => return,
+        BookLayout::Refused(m) => show_refused(b"layout", m),
+        BookLayout::Done => return,
     }
 }
 
@@ -55,17 +58,17 @@ fn run_compiled(
     ops: &[u8],
     nums: &[u64],
     kinds: &[u8],
-    firsts: &[usize; 64],
-    counts: &[usize; 64],
+    firsts: &[usize; BOOK_RULES],
+    counts: &[usize; BOOK_RULES],
     nodes: &[u64],
-    ncounts: &[usize; 64],
-    refusals: &[u64; 64],
+    ncounts: &[usize; BOOK_RULES],
+    refusals: &[u64; BOOK_RULES],
     n: usize,
 )
-    requires { ⌜ n ≤ 64 ⌝ }
+    requires { ⌜ n ≤ bookRules ⌝ }
 {
-    let mut starts = [0u64; 64];
-    let mut bits = [0u64; 64];
+    let mut starts = [0u64; BOOK_RULES];
+    let mut bits = [0u64; BOOK_RULES];
     lay_out(
         ops,
         nums,
@@ -99,15 +102,15 @@ fn run_rules(
     ops: &[u8],
     nums: &[u64],
     kinds: &[u8],
-    firsts: &[usize; 64],
-    counts: &[usize; 64],
+    firsts: &[usize; BOOK_RULES],
+    counts: &[usize; BOOK_RULES],
     n: usize,
 )
-    requires { ⌜ n ≤ 64 ⌝ }
+    requires { ⌜ n ≤ bookRules ⌝ }
 {
     let mut nodes = [0u64; 8960];
-    let mut ncounts = [0usize; 64];
-    let mut refusals = [0u64; 64];
+    let mut ncounts = [0usize; BOOK_RULES];
+    let mut refusals = [0u64; BOOK_RULES];
     compile_rules(
         ops,
         nums,
@@ -133,12 +136,12 @@ fn run_rules(
 
 fn run_book(text: &[u8]) {
     let mut labels = [0u8; 2048];
-    let mut lens = [0usize; 64];
-    let mut kinds = [0u8; 64];
-    let mut firsts = [0usize; 64];
-    let mut counts = [0usize; 64];
-    let mut ops = [0u8; 1024];
-    let mut nums = [0u64; 1024];
+    let mut lens = [0usize; BOOK_RULES];
+    let mut kinds = [0u8; BOOK_RULES];
+    let mut firsts = [0usize; BOOK_RULES];
+    let mut counts = [0usize; BOOK_RULES];
+    let mut ops = [0u8; BOOK_NODES];
+    let mut nums = [0u64; BOOK_NODES];
     let answer = read_book(
         text,
         &mut labels,
@@ -161,7 +164,7 @@ fn run_book(text: &[u8]) {
             nodes: _,
             steps_at: _,
         } => {
-            if 64 < rules {
+            if BOOK_RULES < rules {
                 show_refused(b"more than 64 rules", 2);
                 return;
             }

@@ -7,7 +7,9 @@ use layout::rule::RuleBits;
 use layout::rule::node_slot;
 use layout::rule::rule_layout;
 use libc::STDOUT_FILENO;
+use terms::limit::BOOK_RULES;
 ghost use Prim.Native.Nat.{_≤_, _<_};
+ghost use Rattle.terms.specs.Limits.{bookRules};
 
 fn put(s: &[u8]) {
     io::write_all(STDOUT_FILENO, s);
@@ -32,7 +34,12 @@ pub fn show_refused(call: &[u8], n: u64) {
 }
 
 // Rule r of the tables.
-fn part_at(firsts: &[usize; 64], counts: &[usize; 64], ncounts: &[usize; 64], r: usize) -> Part
+fn part_at(
+    firsts: &[usize; BOOK_RULES],
+    counts: &[usize; BOOK_RULES],
+    ncounts: &[usize; BOOK_RULES],
+    r: usize,
+) -> Part
     requires { ⌜ r < 64 ⌝ }
 {
     Part {
@@ -89,13 +96,13 @@ fn show_rule_at(
     ops: &[u8],
     nums: &[u64],
     nodes: &[u64],
-    firsts: &[usize; 64],
-    counts: &[usize; 64],
-    ncounts: &[usize; 64],
-    refusals: &[u64; 64],
+    firsts: &[usize; BOOK_RULES],
+    counts: &[usize; BOOK_RULES],
+    ncounts: &[usize; BOOK_RULES],
+    refusals: &[u64; BOOK_RULES],
     r: usize,
-    starts: &[u64; 64],
-    bits: &[u64; 64],
+    starts: &[u64; BOOK_RULES],
+    bits: &[u64; BOOK_RULES],
 )
     requires { ⌜ r < 64 ⌝ }
 {
@@ -107,19 +114,19 @@ fn show_rule_at(
 }
 
 // The lines of the rules that compile, with their first bits and bits.
-pub fn show_rules(
+pub(crate) fn show_rules(
     ops: &[u8],
     nums: &[u64],
     nodes: &[u64],
-    firsts: &[usize; 64],
-    counts: &[usize; 64],
-    ncounts: &[usize; 64],
-    refusals: &[u64; 64],
+    firsts: &[usize; BOOK_RULES],
+    counts: &[usize; BOOK_RULES],
+    ncounts: &[usize; BOOK_RULES],
+    refusals: &[u64; BOOK_RULES],
     n: usize,
-    starts: &[u64; 64],
-    bits: &[u64; 64],
+    starts: &[u64; BOOK_RULES],
+    bits: &[u64; BOOK_RULES],
 )
-    requires { ⌜ n ≤ 64 ⌝ }
+    requires { ⌜ n ≤ bookRules ⌝ }
 {
     let mut r: usize = 0;
     while r < n {
@@ -158,10 +165,10 @@ fn show_alike_at(
     ops: &[u8],
     nums: &[u64],
     nodes: &[u64],
-    firsts: &[usize; 64],
-    counts: &[usize; 64],
-    ncounts: &[usize; 64],
-    refusals: &[u64; 64],
+    firsts: &[usize; BOOK_RULES],
+    counts: &[usize; BOOK_RULES],
+    ncounts: &[usize; BOOK_RULES],
+    refusals: &[u64; BOOK_RULES],
     b: Part,
     q: usize,
     r: usize,
@@ -180,10 +187,10 @@ fn show_alike_to(
     ops: &[u8],
     nums: &[u64],
     nodes: &[u64],
-    firsts: &[usize; 64],
-    counts: &[usize; 64],
-    ncounts: &[usize; 64],
-    refusals: &[u64; 64],
+    firsts: &[usize; BOOK_RULES],
+    counts: &[usize; BOOK_RULES],
+    ncounts: &[usize; BOOK_RULES],
+    refusals: &[u64; BOOK_RULES],
     r: usize,
 )
     requires { ⌜ r < 64 ⌝ }
@@ -200,17 +207,17 @@ fn show_alike_to(
 }
 
 // Each two rules that compile and are alike, by the later one and then the earlier.
-pub fn show_alike(
+pub(crate) fn show_alike(
     ops: &[u8],
     nums: &[u64],
     nodes: &[u64],
-    firsts: &[usize; 64],
-    counts: &[usize; 64],
-    ncounts: &[usize; 64],
-    refusals: &[u64; 64],
+    firsts: &[usize; BOOK_RULES],
+    counts: &[usize; BOOK_RULES],
+    ncounts: &[usize; BOOK_RULES],
+    refusals: &[u64; BOOK_RULES],
     n: usize,
 )
-    requires { ⌜ n ≤ 64 ⌝ }
+    requires { ⌜ n ≤ bookRules ⌝ }
 {
     let mut r: usize = 0;
     while r < n {

@@ -23,7 +23,7 @@ use Rattle.formula.proofs.Trees.{size-pos, spells-run, spells-unique}
 use Rattle.formula.proofs.Nodes.{node-unknown}
 use Rattle.formula.proofs.Walks.{both-true, stuck-upto, upto-inj}
 use Rattle.formula.proofs.Cases.{true-false}
-use Rattle.book_laws.specs.Write.{decimal}
+use Rattle.number.specs.Digits.{decimal}
 use Rattle.text.specs.Tape.{Tape, tape, Wrote}
 use Rattle.text.proofs.Tapes.{as-text, append-nil, nothing, then}
 use Rattle.spelling.specs.Spelling.{spell, spelled, impliesAs, formulaText}

@@ -8,7 +8,7 @@ use mathlib.Core.List.{List, [], _∷_, _++_}
 use Prim.Native.Nat.{ℕ, _≤_}
 use lib.Dec.{ltb}
 use lib.ListN.{length}
-use Rattle.number.specs.Number.{pick}
+use Rattle.terms.specs.Choice.{pick}
 use Rattle.formula.specs.Tree.{leaf-of, one-of, two-of, unknown}
 use Rattle.formula.specs.Spells.{Spells}
 use Rattle.formula.specs.Formula.{Formula, Node, not, next, always, eventually, always-for, within, and, or, implies, until}

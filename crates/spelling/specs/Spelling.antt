@@ -8,7 +8,7 @@ use Prim.Native.Nat.{ℕ}
 use Rattle.formula.specs.Formula.{Formula, var, input, output}
 use Rattle.formula.specs.Text.{Sign, atom, sign, signsBy, signs, operand}
 use Rattle.monitor.specs.Mon.{Signal, always-true, at}
-use Rattle.book_laws.specs.Write.{decimal}
+use Rattle.number.specs.Digits.{decimal}
 
 abbrev pub spell : Sign → List ℕ
 spell (atom (var n)) = 118 ∷ decimal n

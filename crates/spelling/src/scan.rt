@@ -1,5 +1,12 @@
 // A pure formula's prefix text: its nodes stand in prefix order, so the table is read from left to right.
 use formula::table::Walk;
+use terms::op::AND;
+use terms::op::IMPLIES;
+use terms::op::IN;
+use terms::op::NEXT;
+use terms::op::NOT;
+use terms::op::OR;
+use terms::op::OUT;
 use text::write::put_byte;
 use text::write::put_decimal;
 ghost use mathlib.Core.Bool.{true, false};
@@ -16,10 +23,10 @@ fn put_letter(out: &mut [u8], at: usize, op: u8) -> usize
     requires { ⌜ op < 3 ⌝ }
     ensures { λ r. ⌜ Wrote (tape (now (out .entry)) at) (letter op ∷ []) (tape (now (out .exit)) r) ⌝ }
 {
-    if op < 1 {
+    if op < IN {
         return put_byte(out, at, 118);
     }
-    if op < 2 {
+    if op < OUT {
         return put_byte(out, at, 105);
     }
     put_byte(out, at, 111)
@@ -29,20 +36,20 @@ fn put_letter(out: &mut [u8], at: usize, op: u8) -> usize
 pub fn put_word(out: &mut [u8], at: usize, op: u8, n: u64, owing: bool) -> usize
     ensures { λ r. ⌜ Wrote (tape (now (out .entry)) at) (nodeText owing (node op n)) (tape (now (out .exit)) r) ⌝ }
 {
-    if op < 3 {
+    if op < NOT {
         let place = put_letter(out, at, op);
         return put_decimal(out, place, n);
     }
-    if op < 4 {
+    if op < NEXT {
         return put_byte(out, at, 33);
     }
-    if op < 9 {
+    if op < AND {
         return at;
     }
-    if op < 10 {
+    if op < OR {
         return put_byte(out, at, 38);
     }
-    if op < 11 {
+    if op < IMPLIES {
         return put_byte(out, at, 124);
     }
     if 12 <= op {

@@ -19,7 +19,7 @@ use Rattle.formula.proofs.Trees.{size-pos}
 use Rattle.formula.proofs.Nodes.{numberOf, unary-number, binary-number}
 use Rattle.formula.proofs.Places.{leaf-there, one-there, two-there, in-ops, placed-left}
 use Rattle.liveness.specs.Split.{faults, skeletonOf, obligationsOf, owes}
-use Rattle.split.specs.Held.{entries, skeletonCells, owedCells, Purity, Ends, Ready, Laid, Decomposed}
+use Rattle.split.specs.Held.{entries, skeletonCells, owedCells, Purity, Ends, SplitReady, SplitLaid, Decomposed}
 use Rattle.split.specs.declared.parts.Filled.{Filled}
 use Rattle.split.proofs.Stores.{sets-then, same-length}
 use Rattle.liveness.proofs.Words.{only-not, only-until, faults-two, append-nil-inv, sound-eventually, unless-nil, both-nil}
@@ -39,7 +39,7 @@ module _ (ops nums : List ℕ) (i : ℕ) where
   pub purity-placed : Purity ops nums i → Placed ops nums i
   purity-placed p = p .place
 
-module _ (ops nums : List ℕ) (i : ℕ) (s : List ℕ) (k : ℕ) (w : List ℕ) (o : ℕ) (g : Ready ops nums i s k w o) where
+module _ (ops nums : List ℕ) (i : ℕ) (s : List ℕ) (k : ℕ) (w : List ℕ) (o : ℕ) (g : SplitReady ops nums i s k w o) where
   -- ---- what the calls ask
   pub ready-in-ops : i < length ops
   ready-in-ops = in-ops ops nums i (g .place)
@@ -95,7 +95,7 @@ module _ (ops nums : List ℕ) (i : ℕ) (s : List ℕ) (k : ℕ) (w : List ℕ)
         }
 
   module _ (s₁ : List ℕ) (a b : ℕ) (e : s₁ ≡ sets s (2 * k) (a ∷ b ∷ [])) where
-    pub ready-not : 3 ≤ getD ops i 0 → getD ops i 0 < 4 → Ready ops nums (i + 1) s₁ (k + 1) w o
+    pub ready-not : 3 ≤ getD ops i 0 → getD ops i 0 < 4 → SplitReady ops nums (i + 1) s₁ (k + 1) w o
     unfolding size faults nodeAt
     ready-not h n =
         let p = g .place in
@@ -116,7 +116,7 @@ module _ (ops nums : List ℕ) (i : ℕ) (s : List ℕ) (k : ℕ) (w : List ℕ)
       sound-parts c l r t q =
           append-nil-inv (faults l) (faults r) (sym (ap faults q ∙ faults-two c l r (subst (λ (m : ℕ). m < 12) (binary-number _ _ c t) n)) ∙ g .sound)
 
-      pub ready-left : Ready ops nums (i + 1) s₁ (k + 1) w o
+      pub ready-left : SplitReady ops nums (i + 1) s₁ (k + 1) w o
       unfolding size
       ready-left =
           let p = g .place in
@@ -131,7 +131,7 @@ module _ (ops nums : List ℕ) (i : ℕ) (s : List ℕ) (k : ℕ) (w : List ℕ)
           }
 
       module _ (s₂ w₂ : List ℕ) (left : Filled) (d : Decomposed ops nums (i + 1) s₁ s₂ (k + 1) w w₂ o left) where
-        pub ready-right : Ready ops nums (left .end) s₂ (left .entries) w₂ (left .owed)
+        pub ready-right : SplitReady ops nums (left .end) s₂ (left .entries) w₂ (left .owed)
         unfolding size
         ready-right =
             let p = g .place in
@@ -162,7 +162,7 @@ module _ (ops nums : List ℕ) (i : ℕ) (s s′ : List ℕ) (k : ℕ) (w w′ :
   decomposed-leaf h e = record {
     is = λ f sp n.
         let (a, q, m) = leaf-there ops nums i f sp h in
-        subst (λ (x : Formula). Laid x i s s′ k w w o (record { end = i + 1; entries = k + 1; owed = o })) (sym q)
+        subst (λ (x : Formula). SplitLaid x i s s′ k w w o (record { end = i + 1; entries = k + 1; owed = o })) (sym q)
         (record { skeleton = e; owing = refl; ends = refl; entered = refl; counted = omega arith });
   }
 
@@ -174,7 +174,7 @@ module _ (ops nums : List ℕ) (i : ℕ) (s s′ : List ℕ) (k : ℕ) (w w′ :
         let y : u ≡ not = only-not u (subst (λ (m : ℕ). m < 4) (unary-number _ _ u t) n) in
         let q′ : f ≡ one not x = q ∙ ap (λ (c : Unary). one c x) y in
         let l = d .is x v (sym (ap faults q′) ∙ z) in
-        subst (λ (c : Formula). Laid c i s s′ k w w′ o r) (sym q′)
+        subst (λ (c : Formula). SplitLaid c i s s′ k w w′ o r) (sym q′)
         (record { skeleton = sets-then s s₁ s′ (3 ∷ 0 ∷ []) (skeletonCells (skeletonOf x (i + 1) o)) (2 * k) (2 * (k + 1)) e (l .skeleton) (omega arith); owing = l .owing; ends = omega (arith, l .ends); entered = omega (arith, l .entered); counted = l .counted });
   }
 
@@ -184,7 +184,7 @@ module _ (ops nums : List ℕ) (i : ℕ) (s s′ : List ℕ) (k : ℕ) (w w′ :
     is = λ f sp z.
         let (u, x, t, q, v) = one-there ops nums i f sp (omega arith) n in
         let y : u ≡ eventually = sound-eventually u x (subst (λ (m : ℕ). 4 ≤ m) (unary-number _ _ u t) h) (sym (ap faults q) ∙ z) in
-        subst (λ (c : Formula). Laid c i s s′ k w w′ o (record { end = e; entries = k + 1; owed = o + 1 })) (sym (q ∙ ap (λ (c : Unary). one c x) y))
+        subst (λ (c : Formula). SplitLaid c i s s′ k w w′ o (record { end = e; entries = k + 1; owed = o + 1 })) (sym (q ∙ ap (λ (c : Unary). one c x) y))
         (record { skeleton = a; owing = b; ends = omega (arith, d .is x v); entered = refl; counted = refl });
   }
 
@@ -196,7 +196,7 @@ module _ (ops nums : List ℕ) (i : ℕ) (s s′ : List ℕ) (k : ℕ) (w w′ :
         let y : u ≡ until = only-until u (subst (λ (n : ℕ). 12 ≤ n) (binary-number _ _ u t) h) in
         let n : m ≡ i + 1 + size l = d .is l v in
         let n′ : e ≡ m + size r = d′ .is r (subst (λ (j : ℕ). Spells (nodeAt ops nums) j r) (sym n) v′) in
-        subst (λ (c : Formula). Laid c i s s′ k w w′ o (record { end = e; entries = k + 1; owed = o + 1 })) (sym (q ∙ ap (λ (c : Binary). two c l r) y))
+        subst (λ (c : Formula). SplitLaid c i s s′ k w w′ o (record { end = e; entries = k + 1; owed = o + 1 })) (sym (q ∙ ap (λ (c : Binary). two c l r) y))
         (record { skeleton = a; owing = b ∙ ap (λ (j : ℕ). sets w (3 * o) (1 ∷ (i + 1) ∷ j ∷ [])) n; ends = omega arith; entered = refl; counted = refl });
   }
 
@@ -222,7 +222,7 @@ module _ (ops nums : List ℕ) (i : ℕ) (s s′ : List ℕ) (k : ℕ) (w w′ :
         let me : entries (skeletonOf y (left .end) (left .owed)) ≡ entries (skeletonOf y (i + 1 + size x) (o + owes x (i + 1))) =
         ap₂ (λ (p p′ : ℕ). entries (skeletonOf y p p′)) (l .ends) (l .counted) in
         let mo : owes y (left .end) ≡ owes y (i + 1 + size x) = ap (λ (p : ℕ). owes y p) (l .ends) in
-        subst (λ (p : Formula). Laid p i s s′ k w w′ o r) (sym q)
+        subst (λ (p : Formula). SplitLaid p i s s′ k w w′ o r) (sym q)
         (record {
           skeleton = all ∙ ap (λ (p : ℕ). sets s (2 * k) ((p ∷ 0 ∷ []) ++ (cs ++ skeletonCells (skeletonOf y (i + 1 + size x) (o + owes x (i + 1)))))) (b ∙ c) ∙ sym (ap (sets s (2 * k)) (j .cells));
           owing = sets-then w w₂ w′ (owedCells (obligationsOf x (i + 1))) (owedCells (obligationsOf y (i + 1 + size x))) (3 * o) (3 * left .owed) (l .owing) mw (omega (arith, l .counted, owed-length (obligationsOf x (i + 1)))) ∙ sym (ap (sets w (3 * o)) (ap owedCells (j .owe) ∙ owed-append (obligationsOf x (i + 1)) (obligationsOf y (i + 1 + size x))));

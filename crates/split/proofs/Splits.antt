@@ -16,7 +16,7 @@ use Rattle.formula.specs.Table.{Rule, Placed, ruleOf, isSome, roomy}
 use Rattle.formula.proofs.Cases.{true-false}
 use Rattle.formula.proofs.Rules.{rule-inv}
 use Rattle.liveness.specs.Split.{live, faults, skeletonOf, obligationsOf, owes, Answer, refused, parts, firstOr, property, splitOf}
-use Rattle.split.specs.Held.{entries, skeletonCells, owedCells, Split, no-split, split, resultOf, Outcome, outcome, held, roomySplit, ofRule, unlessShort, splitting, Ready, Laid, Decomposed}
+use Rattle.split.specs.Held.{entries, skeletonCells, owedCells, Split, no-split, split, resultOf, Outcome, outcome, held, roomySplit, ofRule, unlessShort, splitting, SplitReady, SplitLaid, Decomposed}
 use Rattle.liveness.specs.Judge.{Lives, topOf, Judged}
 use Rattle.split.specs.declared.parts.Liveness.{Liveness}
 use Rattle.split.specs.declared.parts.Liveness.the-variants.{None, Parts, Refused}
@@ -116,7 +116,7 @@ module _ (ops nums : List ℕ) (first count : ℕ) (a : Bool) (s w : List ℕ) w
                     same : (i j k l : ℕ) (t u v x : List ℕ) → i ≡ j → k ≡ l → t ≡ u → v ≡ x → outcome (Parts i k) t v ≡ outcome (Parts j l) u x
                     same i j k l t u v x e f g h = cc
 
-                pub ready-rule : Ready ops nums first s 0 w 0
+                pub ready-rule : SplitReady ops nums first s 0 w 0
                 ready-rule =
                     let (f, p) = is-some q _ z y in
                     let g = rule-inv ops nums first count f p in

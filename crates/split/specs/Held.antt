@@ -12,6 +12,7 @@ use Prim.Native.Nat.{ℕ, _+_, _*_, _≤_}
 use lib.Dec.{leb}
 use lib.ListN.{length}
 use lib.Seq.{sets}
+use Rattle.terms.specs.Limits.{owedRoom, skeletonRoom}
 use Rattle.result.specs.Result.{Result, given, refused as no-result}
 use Rattle.formula.specs.Tree.{size}
 use Rattle.formula.specs.Spells.{Spells}
@@ -74,7 +75,7 @@ held (parts sk os) s o = settled (given (split (entries sk) (length os))) (sets 
 
 -- refusal 1: the formula table has 1,024 nodes, and each output room for 256 entries
 abbrev pub roomySplit : List ℕ → List ℕ → List ℕ → List ℕ → Bool
-roomySplit ops nums s o = roomy ops nums && (leb 512 (length s) && leb 768 (length o))
+roomySplit ops nums s o = roomy ops nums && (leb skeletonRoom (length s) && leb owedRoom (length o))
 
 abbrev pub ofRule : Bool → ℕ → Option Formula → Answer
 ofRule assumption first none = refused 2
@@ -102,14 +103,14 @@ pub record Ends (ops nums : List ℕ) (i e : ℕ) : Type 0 where
   pub is : (f : Formula) → Spells (nodeAt ops nums) i f → e ≡ i + size f
 
 -- a formula without faults stands at i, and the outputs have room for it from entry k and obligation o on
-pub record Ready (ops nums : List ℕ) (i : ℕ) (s : List ℕ) (k : ℕ) (w : List ℕ) (o : ℕ) : Type 0 where
+pub record SplitReady (ops nums : List ℕ) (i : ℕ) (s : List ℕ) (k : ℕ) (w : List ℕ) (o : ℕ) : Type 0 where
   pub place : Placed ops nums i
   pub sound : faults (place .formula) ≡ []
   pub room : 2 * (k + size (place .formula)) ≤ length s
   pub owed-room : 3 * (o + size (place .formula)) ≤ length w
 
 -- what decomposing f, which stands at i, leaves: its skeleton's entries from k on, its obligations from o on, and nothing else changed
-pub record Laid (f : Formula) (i : ℕ) (s s′ : List ℕ) (k : ℕ) (w w′ : List ℕ) (o : ℕ) (r : Filled) : Type 0 where
+pub record SplitLaid (f : Formula) (i : ℕ) (s s′ : List ℕ) (k : ℕ) (w w′ : List ℕ) (o : ℕ) (r : Filled) : Type 0 where
   pub skeleton : s′ ≡ sets s (2 * k) (skeletonCells (skeletonOf f i o))
   pub owing : w′ ≡ sets w (3 * o) (owedCells (obligationsOf f i))
   pub ends : r .end ≡ i + size f
@@ -117,4 +118,4 @@ pub record Laid (f : Formula) (i : ℕ) (s s′ : List ℕ) (k : ℕ) (w w′ : 
   pub counted : r .owed ≡ o + owes f i
 
 pub record Decomposed (ops nums : List ℕ) (i : ℕ) (s s′ : List ℕ) (k : ℕ) (w w′ : List ℕ) (o : ℕ) (r : Filled) : Type 0 where
-  pub is : (f : Formula) → Spells (nodeAt ops nums) i f → faults f ≡ [] → Laid f i s s′ k w w′ o r
+  pub is : (f : Formula) → Spells (nodeAt ops nums) i f → faults f ≡ [] → SplitLaid f i s s′ k w w′ o r

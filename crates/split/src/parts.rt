@@ -1,12 +1,19 @@
 // The liveness split: a property's skeleton and its obligations, or the refusal that its walk meets first.
 use formula::table::Walk;
 use liveness::walk::Top;
+use terms::entry;
+use terms::limit::OWED_ROOM;
+use terms::limit::SKELETON_ROOM;
+use terms::op::AND;
+use terms::op::NEXT;
+use terms::op::NOT;
+use terms::op::UNTIL;
 ghost use mathlib.Core.Path.{_≡_};
 ghost use mathlib.Core.List.{[], _∷_};
 ghost use Prim.Native.Nat.{_+_, _*_, _<_, _≤_};
 ghost use lib.ListN.{length};
 ghost use lib.Seq.{sets};
-ghost use Rattle.split.specs.Held.{outcome, splitting, Purity, Ends, Ready, Decomposed};
+ghost use Rattle.split.specs.Held.{outcome, splitting, Purity, Ends, SplitReady, Decomposed};
 
 // The answer for a rule: no split is asked for, a split with so many entries and obligations, or a refusal's number.
 pub enum Liveness {
@@ -69,41 +76,41 @@ fn decompose_top(
     owed: &mut [u64],
     o: usize,
 ) -> Filled
-    requires { ⌜ Ready (now ops) (now nums) i (now skeleton) k (now owed) o ⌝ }
+    requires { ⌜ SplitReady (now ops) (now nums) i (now skeleton) k (now owed) o ⌝ }
     ensures { λ r. ⌜ Decomposed (now (ops .entry)) (now (nums .entry)) i (now (skeleton .entry)) (now (skeleton .exit)) k (now (owed .entry)) (now (owed .exit)) o r ⌝ }
 {
     let op = ops[i];
-    if op < 3 {
-        put_entry(skeleton, k, 0, i as u64);
+    if op < NOT {
+        put_entry(skeleton, k, entry::SAFETY, i as u64);
         return Filled {
             end: i + 1,
             entries: k + 1,
             owed: o,
         };
     }
-    if op < 4 {
-        put_entry(skeleton, k, 3, 0);
+    if op < NEXT {
+        put_entry(skeleton, k, entry::NOT, 0);
         return decompose_top(ops, nums, i + 1, skeleton, k + 1, owed, o);
     }
-    if op < 9 {
+    if op < AND {
         let e = end_of(ops, nums, i + 1);
-        put_entry(skeleton, k, 1, o as u64);
-        put_owed(owed, o, 0, (i + 1) as u64, 0);
+        put_entry(skeleton, k, entry::OWED, o as u64);
+        put_owed(owed, o, entry::EVENTUALLY, (i + 1) as u64, 0);
         return Filled {
             end: e,
             entries: k + 1,
             owed: o + 1,
         };
     }
-    if op < 12 {
+    if op < UNTIL {
         put_entry(skeleton, k, wide(op), 0);
         let left = decompose_top(ops, nums, i + 1, skeleton, k + 1, owed, o);
         return decompose_top(ops, nums, left.end, skeleton, left.entries, owed, left.owed);
     }
     let m = end_of(ops, nums, i + 1);
     let e = end_of(ops, nums, m);
-    put_entry(skeleton, k, 1, o as u64);
-    put_owed(owed, o, 1, (i + 1) as u64, m as u64);
+    put_entry(skeleton, k, entry::OWED, o as u64);
+    put_owed(owed, o, entry::UNTIL, (i + 1) as u64, m as u64);
     Filled {
         end: e,
         entries: k + 1,
@@ -121,15 +128,16 @@ pub fn split(
     skeleton: &mut [u64],
     owed: &mut [u64],
 ) -> Liveness
-    ensures { λ r. ⌜ outcome r (now (skeleton .exit)) (now (owed .exit)) ≡ splitting (now (ops .entry)) (now (nums .entry)) first count assumption (now (skeleton .entry)) (now (owed .entry)) ⌝ }
+    ensures { λ r. ⌜ outcome r (now (skeleton .exit)) (now (owed .exit)) ≡ splitting (now (ops .entry)) (now (nums .entry)) first count assumption
+        (now (skeleton .entry)) (now (owed .entry)) ⌝ }
 {
     if !formula::table::is_roomy(ops, nums) {
         return Liveness::Refused(1);
     }
-    if skeleton.len() < 512 {
+    if skeleton.len() < SKELETON_ROOM {
         return Liveness::Refused(1);
     }
-    if owed.len() < 768 {
+    if owed.len() < OWED_ROOM {
         return Liveness::Refused(1);
     }
     if !formula::table::is_rule(ops, nums, first, count) {

@@ -21,17 +21,17 @@ use Rattle.node_step.specs.Memory.{Memory}
 use Rattle.lent.specs.Nodes.{NodesAt}
 use Rattle.stepping.specs.Walk.{readMon, writeMon, Walkable, NodeStepped}
 use Rattle.lent.specs.Shape.{fitsMon}
-use Rattle.lent.specs.Lent.{Tables, Monitor, isLent, ruleMon, fits, rowsFit, Known}
+use Rattle.lent.specs.Lent.{LentTables, LentMonitor, isLent, ruleMon, fits, rowsFit, Known}
 use Rattle.lent.proofs.Standings.{monitor-room, lent-parts, rule-stood, fits-by-table, rule-inside}
 use Rattle.stepping.specs.Call.{Stepping, orRefuse, accept, stepMon, stepCall, Answers, Fit, acceptMon, acceptOf}
 use Rattle.stepping.proofs.Memories.{failed-read, read-back}
 use Rattle.stepping.proofs.Fitting.{fits-shaped}
 
 -- ---- a known monitor
-refused-by : (k : Monitor) (b : Bool) (n : ℕ) (c : Stepping) → b ≡ false → Answers (orRefuse b n (k .memory) c) (Refused n) (k .memory)
+refused-by : (k : LentMonitor) (b : Bool) (n : ℕ) (c : Stepping) → b ≡ false → Answers (orRefuse b n (k .memory) c) (Refused n) (k .memory)
 refused-by k b n c q = subst (λ (x : Bool). Answers (orRefuse x n (k .memory) c) (Refused n) (k .memory)) (sym q) (record { answers = refl; leaves = refl })
 
-module _ (t : Tables) (k : Monitor) (d : Known t k) (s w : ℕ) where
+module _ (t : LentTables) (k : LentMonitor) (d : Known t k) (s w : ℕ) where
   by-rule : stepMon (ruleMon t) k s w ≡ stepMon (some (d .mon)) k s w
   by-rule = ap (λ (o : Option Mon). stepMon o k s w) (d .is)
 
@@ -56,7 +56,7 @@ module _ (t : Tables) (k : Monitor) (d : Known t k) (s w : ℕ) where
       accepted-here r mem′ l a = subst (λ (c : Stepping). Answers c r mem′) (ap (λ (o : Option Mon). acceptMon o (k .memory) s w) (d .is) ∙ sym (shaped-by ∙ ap (λ (x : Bool). orRefuse x 24 (k .memory) (accept (d .mon) (k .memory) s w)) (lt-ltb s 9223372036854775808 l))) a
 
 -- ---- the step
-module _ (t : Tables) (k : Monitor) (s : ℕ) (d : Fit t k s) where
+module _ (t : LentTables) (k : LentMonitor) (s : ℕ) (d : Fit t k s) where
   pub fit-walk : Walkable (t .ops) (t .nums) (t .nodes) (t .nfirst) (k .memory) 0 s
   fit-walk =
       let o = rule-stood t (d .known .mon) (d .known .is) in
@@ -103,7 +103,7 @@ module _ (t : Tables) (k : Monitor) (s : ℕ) (d : Fit t k s) where
         and-true false = refl
 
 -- ---- the whole call
-module _ (t : Tables) (k : Monitor) (s w : ℕ) (b : Bool) (e : b ≡ isLent t k) where
+module _ (t : LentTables) (k : LentMonitor) (s w : ℕ) (b : Bool) (e : b ≡ isLent t k) where
   pub not-lent : b ≡ false → Answers (stepCall t k s w) (Refused 1) (k .memory)
   unfolding stepCall
   not-lent q = subst (λ (x : Bool). Answers (orRefuse x 1 (k .memory) (stepMon (ruleMon t) k s w)) (Refused 1) (k .memory)) (sym (sym e ∙ q)) (record { answers = refl; leaves = refl })

@@ -16,7 +16,7 @@ use Rattle.formula.proofs.Cases.{true-false}
 use Rattle.monitor.specs.Mon.{Mon}
 use Rattle.stepping.specs.declared.fresh.Outcome.the-variants.{Made, Refused}
 use Rattle.node_step.specs.Memory.{Memory}
-use Rattle.lent.specs.Lent.{Tables, lentOf, ruleMon, Known}
+use Rattle.lent.specs.Lent.{LentTables, lentOf, ruleMon, Known}
 use Rattle.stepping.specs.Fresh.{column, MakeReady, Makes, Making, refuse, makeMon, orShort, making, freshCall}
 use Rattle.lent.proofs.Standings.{known-comparable}
 
@@ -97,7 +97,7 @@ module _ (nodes : List ℕ) (nfirst ncount : ℕ) (forms bounds : List ℕ) (mem
   pub made : (forms′ bounds′ : List ℕ) (h : List Bool) (r : List ℕ) (f : List Bool) (c : List ℤ) → forms′ ≡ sets forms 0 (column nodes 0 nfirst ncount) → bounds′ ≡ sets bounds 0 (column nodes 1 nfirst ncount) → h ≡ sets (mem .held) 0 (replicate ncount false) → r ≡ sets (mem .remaining) 0 (replicate ncount 0) → f ≡ sets (mem .failed) 0 (replicate ncount false) → c ≡ sets (mem .culprits) 0 (replicate ncount minus-one) → Makes nodes nfirst ncount forms bounds mem forms′ bounds′ (record { held = h; remaining = r; failed = f; culprits = c })
   made forms′ bounds′ h r f c p q u v w x = record { forms-are = p; bounds-are = q; memory-is = λ i. record { held = u i; remaining = v i; failed = w i; culprits = x i } }
 
-module _ (t : Tables) (forms bounds : List ℕ) (mem : Memory) (b : Bool) (e : b ≡ lentOf (t .ops) (t .nums) (t .nodes) forms bounds mem) where
+module _ (t : LentTables) (forms bounds : List ℕ) (mem : Memory) (b : Bool) (e : b ≡ lentOf (t .ops) (t .nums) (t .nodes) forms bounds mem) where
   pub made-short : b ≡ false → freshCall t forms bounds mem (Refused 1) forms bounds mem
   unfolding making
   made-short q =

@@ -21,7 +21,7 @@ use Rattle.node_step.specs.declared.state.NodeState.{NodeState}
 use Rattle.node_step.specs.Memory.{Memory, get}
 use Rattle.node_step.specs.Check.{obligationOf, readCheck}
 use Rattle.lent.specs.Shape.{isMinusOne, fromMinusOne, windowKept, entryFits, fitsMon}
-use Rattle.lent.specs.Lent.{Monitor, fits}
+use Rattle.lent.specs.Lent.{LentMonitor, fits}
 use Rattle.stepping.specs.Walk.{BlamelessEntry, Blameless, ShapedAt, readMon}
 use Rattle.stepping.specs.Fitted.{OwnNode, OwnForms, Fitted}
 
@@ -132,7 +132,7 @@ module _ (forms bounds : List ℕ) (mem : Memory) where
   fits-shaped m i h = let x = fits-fitted m i h in record { blameless = x .blameless; kept = x .kept }
 
 -- ---- a whole monitor
-module _ (m : Mon) (k : Monitor) where
+module _ (m : Mon) (k : LentMonitor) where
   pub fits-inv : fits m k ≡ true → (k .size ≡ count m) × Fitted m (k .forms) (k .bounds) (k .memory) 0
   fits-inv h =
       let (x, y) = both-true (eqb (k .size) (count m)) (fitsMon m (k .forms) (k .bounds) (k .memory) 0) h in

@@ -9,6 +9,7 @@ use lib.IntN.{pos}
 use lib.ListN.{length, getD, replicate, length-replicate, getD-replicate, List·getD-append}
 use lib.Seq.{sets, sets-eq, length-sets}
 use borrow.Author.Tests.{le-ltb}
+use Rattle.terms.specs.Choice.{pick}
 use Rattle.formula.proofs.Walks.{both-true}
 use Rattle.monitor.specs.declared.range.AnchorRange.{AnchorRange}
 use Rattle.monitor.specs.declared.node.SignalExpr.{SignalExpr}
@@ -17,7 +18,7 @@ use Rattle.monitor.specs.declared.node.MonNode.the-variants.{RangeCheck, Delaye
 use Rattle.monitor.specs.declared.node.Row.{Row}
 use Rattle.monitor.specs.declared.node.Row.the-variants.{Node, Unknown}
 use Rattle.monitor.specs.Mon.{Check, range-check, delayed-check, obligation, Mon, check, And, Or, count, nodeOf}
-use Rattle.monitor.specs.Table.{rowOf, pickRow, formAt, cell, rangeFrom, exprFrom}
+use Rattle.monitor.specs.Table.{rowOf, formAt, cell, rangeFrom, exprFrom}
 use Rattle.meaning.specs.Culprit.{minus-one}
 use Rattle.meaning.specs.State.{WellShaped, fresh}
 use Rattle.meaning.proofs.Meaning.{fresh-shaped}
@@ -26,7 +27,7 @@ use Rattle.node_step.specs.Memory.{Memory, get, Inside}
 use Rattle.node_step.specs.Check.{readCheck}
 use Rattle.node_step.proofs.Entries.{inside-less}
 use Rattle.lent.specs.Nodes.{NodesAt}
-use Rattle.lent.specs.Lent.{Tables, Monitor, hasRoom, monitorRoom, HoldsRule, Ready}
+use Rattle.lent.specs.Lent.{LentTables, LentMonitor, hasRoom, monitorRoom, HoldsRule, Ready}
 use Rattle.lent.proofs.Standings.{monitor-room, rule-stood}
 use Rattle.stepping.specs.Walk.{readMon, BlamelessEntry, Blameless}
 use Rattle.stepping.specs.Fitted.{OwnNode, OwnForms}
@@ -105,19 +106,19 @@ set-column nodes l col i n k h g =
 -- ---- a row's form and bound are those of the node that it holds
 abbrev rowWith : ℕ → ℕ → AnchorRange → SignalExpr → SignalExpr → Row
 rowWith form b r s t =
-    pickRow (ltb form 1) (Node (RangeCheck s r))
-    (pickRow (ltb form 2) (Node (DelayedCheck s t r))
-    (pickRow (ltb form 3) (Node (Obligation b s t r))
-    (pickRow (ltb form 4) (Node AndNode)
-    (pickRow (ltb form 5) (Node OrNode) Unknown))))
+    pick (ltb form 1) (Node (RangeCheck s r))
+    (pick (ltb form 2) (Node (DelayedCheck s t r))
+    (pick (ltb form 3) (Node (Obligation b s t r))
+    (pick (ltb form 4) (Node AndNode)
+    (pick (ltb form 5) (Node OrNode) Unknown))))
 
 no-row : (f b : ℕ) (r : AnchorRange) (s t : SignalExpr) → 5 ≤ f → rowWith f b r s t ≡ Unknown
 no-row f b r s t h =
-    ap (λ (x : Bool). pickRow x (Node (RangeCheck s r)) (pickRow (ltb f 2) (Node (DelayedCheck s t r)) (pickRow (ltb f 3) (Node (Obligation b s t r)) (pickRow (ltb f 4) (Node AndNode) (pickRow (ltb f 5) (Node OrNode) Unknown))))) (le-ltb f 1 (omega arith))
-    ∙ ap (λ (x : Bool). pickRow x (Node (DelayedCheck s t r)) (pickRow (ltb f 3) (Node (Obligation b s t r)) (pickRow (ltb f 4) (Node AndNode) (pickRow (ltb f 5) (Node OrNode) Unknown)))) (le-ltb f 2 (omega arith))
-    ∙ ap (λ (x : Bool). pickRow x (Node (Obligation b s t r)) (pickRow (ltb f 4) (Node AndNode) (pickRow (ltb f 5) (Node OrNode) Unknown))) (le-ltb f 3 (omega arith))
-    ∙ ap (λ (x : Bool). pickRow x (Node AndNode) (pickRow (ltb f 5) (Node OrNode) Unknown)) (le-ltb f 4 (omega arith))
-    ∙ ap (λ (x : Bool). pickRow x (Node OrNode) Unknown) (le-ltb f 5 h)
+    ap (λ (x : Bool). pick x (Node (RangeCheck s r)) (pick (ltb f 2) (Node (DelayedCheck s t r)) (pick (ltb f 3) (Node (Obligation b s t r)) (pick (ltb f 4) (Node AndNode) (pick (ltb f 5) (Node OrNode) Unknown))))) (le-ltb f 1 (omega arith))
+    ∙ ap (λ (x : Bool). pick x (Node (DelayedCheck s t r)) (pick (ltb f 3) (Node (Obligation b s t r)) (pick (ltb f 4) (Node AndNode) (pick (ltb f 5) (Node OrNode) Unknown)))) (le-ltb f 2 (omega arith))
+    ∙ ap (λ (x : Bool). pick x (Node (Obligation b s t r)) (pick (ltb f 4) (Node AndNode) (pick (ltb f 5) (Node OrNode) Unknown))) (le-ltb f 3 (omega arith))
+    ∙ ap (λ (x : Bool). pick x (Node AndNode) (pick (ltb f 5) (Node OrNode) Unknown)) (le-ltb f 4 (omega arith))
+    ∙ ap (λ (x : Bool). pick x (Node OrNode) Unknown) (le-ltb f 5 h)
 
 no-node : {x : MonNode} {B : Type 0} → Unknown ≡ Node x → B
 no-node e = let z : _≡_ {A = ℕ} 0 1 = cc in absurd (omega arith)
@@ -175,7 +176,7 @@ room-fresh mem n h =
     let (f, g) = both-true (leb 256 (length (mem .failed))) _ e in
     ap₂ _&&_ (longer (mem .held) (replicate n false) a) (ap₂ _&&_ (longer (mem .remaining) (replicate n 0) c) (ap₂ _&&_ (longer (mem .failed) (replicate n false) f) (longer (mem .culprits) (replicate n minus-one) g)))
 
-module _ (t : Tables) (k : Monitor) (m : Mon) (a : HoldsRule t m) (h : monitorRoom (k .forms) (k .bounds) (k .memory) ≡ true) where
+module _ (t : LentTables) (k : LentMonitor) (m : Mon) (a : HoldsRule t m) (h : monitorRoom (k .forms) (k .bounds) (k .memory) ≡ true) where
   room-still : monitorRoom (freshOf t k .forms) (freshOf t k .bounds) (freshOf t k .memory) ≡ true
   room-still =
       let (c, e) = both-true (leb 256 (length (k .forms))) _ h in

@@ -15,7 +15,7 @@ use Rattle.monitor.specs.Mon.{Mon, check, range-check, delayed-check, obligatio
 use Rattle.meaning.specs.State.{State, WellShaped, step, joinedStep, newlyFailed}
 use Rattle.meaning.proofs.Meaning.{step-shaped, window-ticks, window-closes, window-opens, stays-marked}
 use Rattle.node_step.specs.Memory.{Inside}
-use Rattle.lent.specs.Lent.{Tables, Monitor, isLent, ruleMon, fits, HoldsRule, Ready}
+use Rattle.lent.specs.Lent.{LentTables, LentMonitor, isLent, ruleMon, fits, HoldsRule, Ready}
 use Rattle.lent.proofs.Standings.{monitor-room, room-back, lent-parts, lent-both, rule-inside}
 use Rattle.stepping.specs.Walk.{readMon, writeMon}
 use Rattle.stepping.specs.Fitted.{Windows, StepTaken}
@@ -23,11 +23,11 @@ use Rattle.stepping.specs.Call.{Stepping, refuse, orRefuse, accept, step
 use Rattle.stepping.proofs.Memories.{inside-write, read-back, blameless-write}
 use Rattle.stepping.proofs.Fitting.{fits-inv, fits-by}
 
-pub inside-own : (t : Tables) (k : Monitor) (m : Mon) → HoldsRule t m → Ready k m → Inside (k .memory) (0 + count m)
+pub inside-own : (t : LentTables) (k : LentMonitor) (m : Mon) → HoldsRule t m → Ready k m → Inside (k .memory) (0 + count m)
 inside-own t k m a d = rule-inside t k m (a .rule) (d .room)
 
 -- a well-shaped state, written, leaves a monitor that is ready again
-ready-written : (t : Tables) (k : Monitor) (m : Mon) → HoldsRule t m → Ready k m → (st : State m) → WellShaped m st → Ready (with k (writeMon m st (k .memory) 0)) m
+ready-written : (t : LentTables) (k : LentMonitor) (m : Mon) → HoldsRule t m → Ready k m → (st : State m) → WellShaped m st → Ready (with k (writeMon m st (k .memory) 0)) m
 ready-written t k m a d st h =
     let i = inside-own t k m a d in
     let (e, f) = fits-inv m k (d .fit) in
@@ -41,11 +41,11 @@ ready-written t k m a d st h =
       room = room-back (k .forms) (k .bounds) (writeMon m st (k .memory) 0) (record { forms-in = r .forms-in; bounds-in = r .bounds-in; inside = inside-write m st (k .memory) 0 256 (r .inside) });
     }
 
-pub record Stays (t : Tables) (k : Monitor) (m : Mon) (s w : ℕ) : Type 0 where
+pub record Stays (t : LentTables) (k : LentMonitor) (m : Mon) (s w : ℕ) : Type 0 where
   pub accepted : stepCall t k s w ≡ accept m (k .memory) s w
   pub again : Ready (with k (stepCall t k s w .memory)) m
 
-module _ (t : Tables) (k : Monitor) (m : Mon) (a : HoldsRule t m) (d : Ready k m) (s w : ℕ) where
+module _ (t : LentTables) (k : LentMonitor) (m : Mon) (a : HoldsRule t m) (d : Ready k m) (s w : ℕ) where
   pub ready-call : stepCall t k s w ≡ orRefuse (ltb s 9223372036854775808) 24 (k .memory) (accept m (k .memory) s w)
   unfolding stepCall
   ready-call =
@@ -62,11 +62,11 @@ module _ (t : Tables) (k : Monitor) (m : Mon) (a : HoldsRule t m) (d : Ready k m
       }
 
 -- ---- whatever is lent
-pub data Answered (t : Tables) (k : Monitor) (s w : ℕ) (c : Stepping) : Type 0 where
+pub data Answered (t : LentTables) (k : LentMonitor) (s w : ℕ) (c : Stepping) : Type 0 where
   no-step : (n : ℕ) → c ≡ refuse n (k .memory) → Answered t k s w c
   steps : (m : Mon) → HoldsRule t m → Ready k m → s < 9223372036854775808 → c ≡ accept m (k .memory) s w → Answered t k s w c
 
-module _ (t : Tables) (k : Monitor) (s w : ℕ) where
+module _ (t : LentTables) (k : LentMonitor) (s w : ℕ) where
   pub answered : Answered t k s w (stepCall t k s w)
   unfolding stepCall
   answered = lent (isLent t k) refl
@@ -111,7 +111,7 @@ step-windows (check (obligation b p q r)) st s w h = record {
 step-windows (And m n) st s w h = (step-windows m (st .left) s w (h .0), step-windows n (st .right) s w (h .1))
 step-windows (Or m n) st s w h = (step-windows m (st .left) s w (h .0), step-windows n (st .right) s w (h .1))
 
-pub accepted-windows : (t : Tables) (k : Monitor) (s w : ℕ) (broken : Bool) → stepCall t k s w .answer ≡ given broken → StepTaken t k s w broken
+pub accepted-windows : (t : LentTables) (k : LentMonitor) (s w : ℕ) (broken : Bool) → stepCall t k s w .answer ≡ given broken → StepTaken t k s w broken
 accepted-windows t k s w broken q = go (answered t k s w)
   where
     go : Answered t k s w (stepCall t k s w) → StepTaken t k s w broken

@@ -8,6 +8,7 @@ use native.Mathlib.Omega.{arith}
 use lib.ListN.{length}
 use mir.Syntax.{w64}
 use mir.Val.{Fits}
+use Rattle.terms.specs.Choice.{pick}
 use Rattle.formula.proofs.Cases.{true-false}
 use Rattle.monitor.specs.declared.node.MonNode.{MonNode}
 use Rattle.monitor.specs.declared.node.MonNode.the-variants.{And as AndNode, Or as OrNode}
@@ -15,7 +16,7 @@ use Rattle.monitor.specs.declared.node.Row.{Row}
 use Rattle.monitor.specs.declared.node.Row.the-variants.{Node, Unknown}
 use Rattle.monitor.specs.Mon.{Check, range-check, delayed-check, obligation, Mon, check, And, Or, count, nodeOf}
 use Rattle.monitor.specs.Table.{rowOf}
-use Rattle.meaning.specs.State.{State, CheckShaped, WellShaped, joinedStep, step, culprit, failed, least, offered, pickCulprit}
+use Rattle.meaning.specs.State.{State, CheckShaped, WellShaped, joinedStep, step, culprit, failed, least, offered}
 use Rattle.node_step.specs.declared.state.NodeState.{NodeState}
 use Rattle.stepping.specs.declared.walk.NodeOut.{NodeOut}
 use Rattle.node_step.specs.declared.joined.Parts.{Parts}
@@ -157,7 +158,7 @@ join-step : (any : Bool) (m n : Mon) (mem : Memory) (k s w : ℕ) →
     let b = step n (readMon n mem (k + 1 + count m)) s w in
     let both = writeMon n (b .state) (writeMon m (a .state) mem (k + 1)) (k + 1 + count m) in
     (step (joinOf any m n) (readMon (joinOf any m n) mem k) s w .now ≡ joinedNow any (a .now) (b .now))
-    × (writeMon (joinOf any m n) (step (joinOf any m n) (readMon (joinOf any m n) mem k) s w .state) mem k ≡ put both k (joinedEntry (get mem k .failed || joinedNow any (a .now) (b .now)) (pickCulprit (bool.not (get mem k .failed) && joinedNow any (a .now) (b .now)) (least (offered (a .now) (culprit m (a .state))) (offered (b .now) (culprit n (b .state)))) (get mem k .culprit)) (get both k)))
+    × (writeMon (joinOf any m n) (step (joinOf any m n) (readMon (joinOf any m n) mem k) s w .state) mem k ≡ put both k (joinedEntry (get mem k .failed || joinedNow any (a .now) (b .now)) (pick (bool.not (get mem k .failed) && joinedNow any (a .now) (b .now)) (least (offered (a .now) (culprit m (a .state))) (offered (b .now) (culprit n (b .state)))) (get mem k .culprit)) (get both k)))
 unfolding step readMon writeMon joinedStep
 join-step true m n mem k s w = (refl, refl)
 join-step false m n mem k s w = (refl, refl)
@@ -272,7 +273,7 @@ module _ (ops nums nodes : List ℕ) (nfirst : ℕ) (mem : Memory) (any : Bool) 
                 held = get (mem₂-is j) k .held;
                 remaining = get (mem₂-is j) k .remaining;
                 failed = g j .failed || eb j;
-                culprit = pickCulprit (bool.not (g j .failed) && eb j) (least (offered (x j) (c₁ j)) (offered (now₂ j) (c₂ j))) (g j .culprit);
+                culprit = pick (bool.not (g j .failed) && eb j) (least (offered (x j) (c₁ j)) (offered (now₂ j) (c₂ j))) (g j .culprit);
               }))
                   ∙ sym (join-step any m n mem k s w .1),
             )

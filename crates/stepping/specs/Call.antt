@@ -8,7 +8,7 @@ use Rattle.result.specs.Result.{Result, given, refused}
 use Rattle.monitor.specs.Mon.{Mon}
 use Rattle.meaning.specs.State.{Stepped, step, newlyFailed}
 use Rattle.node_step.specs.Memory.{Memory}
-use Rattle.lent.specs.Lent.{Tables, Monitor, isLent, ruleMon, fits, Known}
+use Rattle.lent.specs.Lent.{LentTables, LentMonitor, isLent, ruleMon, fits, Known}
 use Rattle.stepping.specs.declared.call.Verdict.{Verdict}
 use Rattle.stepping.specs.declared.call.Verdict.the-variants.{Accepted, Refused}
 use Rattle.stepping.specs.Walk.{readMon, writeMon}
@@ -40,17 +40,17 @@ accept m mem s w = record {
   memory = writeMon m (step m (readMon m mem 0) s w .state) mem 0;
 }
 
-abbrev pub stepMon : Option Mon → Monitor → ℕ → ℕ → Stepping
+abbrev pub stepMon : Option Mon → LentMonitor → ℕ → ℕ → Stepping
 stepMon none k s w = refuse 2 (k .memory)
 stepMon (some m) k s w =
     orRefuse (fits m k) 2 (k .memory) (orRefuse (ltb s 9223372036854775808) 24 (k .memory) (accept m (k .memory) s w))
 
 -- document 01's answer to a step call, for whatever is lent: 1, then 2, then 24, else the step
-unfoldable pub stepCall : Tables → Monitor → ℕ → ℕ → Stepping
+unfoldable pub stepCall : LentTables → LentMonitor → ℕ → ℕ → Stepping
 stepCall t k s w = orRefuse (isLent t k) 1 (k .memory) (stepMon (ruleMon t) k s w)
 
 -- a monitor with another memory: the one that a call leaves
-abbrev pub with : Monitor → Memory → Monitor
+abbrev pub with : LentMonitor → Memory → LentMonitor
 with k mem = record { size = k .size; forms = k .forms; bounds = k .bounds; memory = mem }
 
 pub record Answers (c : Stepping) (r : Verdict) (mem : Memory) : Type 0 where
@@ -58,7 +58,7 @@ pub record Answers (c : Stepping) (r : Verdict) (mem : Memory) : Type 0 where
   pub leaves : mem ≡ c .memory
 
 -- ---- what the parts of a call ask
-pub record Fit (t : Tables) (k : Monitor) (s : ℕ) : Type 0 where
+pub record Fit (t : LentTables) (k : LentMonitor) (s : ℕ) : Type 0 where
   pub known : Known t k
   pub shaped : fits (known .mon) k ≡ true
   pub below : s < 9223372036854775808
@@ -67,5 +67,5 @@ abbrev pub acceptMon : Option Mon → Memory → ℕ → ℕ → Stepping
 acceptMon none mem s w = refuse 2 mem
 acceptMon (some m) mem s w = accept m mem s w
 
-abbrev pub acceptOf : Tables → Monitor → ℕ → ℕ → Stepping
+abbrev pub acceptOf : LentTables → LentMonitor → ℕ → ℕ → Stepping
 acceptOf t k s w = acceptMon (ruleMon t) (k .memory) s w

@@ -17,7 +17,7 @@ use Rattle.meaning.specs.Alarm.{truth}
 use Rattle.meaning.specs.State.{ObligationState, State, Stepped, WellShaped, step, newlyFailed}
 use Rattle.meaning.specs.Meaning.{Ticks, Closes, Opens}
 use Rattle.node_step.specs.Memory.{Memory}
-use Rattle.lent.specs.Lent.{Tables, Monitor, ruleMon}
+use Rattle.lent.specs.Lent.{LentTables, LentMonitor, ruleMon}
 use Rattle.stepping.specs.Walk.{readMon, Blameless}
 use Rattle.stepping.specs.Call.{stepCall}
 
@@ -58,7 +58,7 @@ Windows (And m n) s w before after = Windows m s w (before .left) (after .left) 
 Windows (Or m n) s w before after = Windows m s w (before .left) (after .left) × Windows n s w (before .right) (after .right)
 
 -- ---- an accepted call: the rule that the tables hold, the step of its state, and what became of its windows
-pub record StepTaken (t : Tables) (k : Monitor) (s w : ℕ) (broken : Bool) : Type 0 where
+pub record StepTaken (t : LentTables) (k : LentMonitor) (s w : ℕ) (broken : Bool) : Type 0 where
   pub mon : Mon
   pub rule : ruleMon t ≡ some mon
   pub before : WellShaped mon (readMon mon (k .memory) 0)

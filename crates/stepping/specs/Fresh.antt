@@ -12,7 +12,7 @@ use Rattle.meaning.specs.Culprit.{minus-one}
 use Rattle.stepping.specs.declared.fresh.Outcome.{Outcome}
 use Rattle.stepping.specs.declared.fresh.Outcome.the-variants.{Made, Refused}
 use Rattle.node_step.specs.Memory.{Memory, Inside}
-use Rattle.lent.specs.Lent.{Tables, Monitor, lentOf, ruleMon}
+use Rattle.lent.specs.Lent.{LentTables, LentMonitor, lentOf, ruleMon}
 
 -- the numbers in one column of n rows
 unfoldable pub column : List ℕ → ℕ → ℕ → ℕ → List ℕ
@@ -29,7 +29,7 @@ cleared mem n = record {
 }
 
 -- the monitor that is made: its nodes' forms and bounds, and cleared entries; entries past its own keep what they held
-abbrev pub freshOf : Tables → Monitor → Monitor
+abbrev pub freshOf : LentTables → LentMonitor → LentMonitor
 freshOf t k = record {
   size = t .ncount;
   forms = sets (k .forms) 0 (column (t .nodes) 0 (t .nfirst) (t .ncount));
@@ -56,7 +56,7 @@ pub record Making : Type 0 where
 abbrev pub refuse : ℕ → List ℕ → List ℕ → Memory → Making
 refuse n forms bounds mem = record { answer = refused n; forms = forms; bounds = bounds; memory = mem }
 
-abbrev pub makeMon : Option Mon → Tables → List ℕ → List ℕ → Memory → Making
+abbrev pub makeMon : Option Mon → LentTables → List ℕ → List ℕ → Memory → Making
 makeMon none t forms bounds mem = refuse 2 forms bounds mem
 makeMon (some m) t forms bounds mem =
     let k = freshOf t (record { size = 0; forms = forms; bounds = bounds; memory = mem }) in
@@ -67,11 +67,11 @@ orShort true forms bounds mem c = c
 orShort false forms bounds mem c = refuse 1 forms bounds mem
 
 -- document 01's answer to making a monitor, for whatever is lent: 1, then 2, else the fresh monitor
-unfoldable pub making : Tables → List ℕ → List ℕ → Memory → Making
+unfoldable pub making : LentTables → List ℕ → List ℕ → Memory → Making
 making t forms bounds mem =
     orShort (lentOf (t .ops) (t .nums) (t .nodes) forms bounds mem) forms bounds mem (makeMon (ruleMon t) t forms bounds mem)
 
-pub record freshCall (t : Tables) (forms bounds : List ℕ) (mem : Memory) (r : Outcome) (forms′ bounds′ : List ℕ) (mem′ : Memory) : Type 0 where
+pub record freshCall (t : LentTables) (forms bounds : List ℕ) (mem : Memory) (r : Outcome) (forms′ bounds′ : List ℕ) (mem′ : Memory) : Type 0 where
   pub answers : resultOf r ≡ making t forms bounds mem .answer
   pub forms-are : forms′ ≡ making t forms bounds mem .forms
   pub bounds-are : bounds′ ≡ making t forms bounds mem .bounds

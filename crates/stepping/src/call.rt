@@ -3,9 +3,10 @@ use crate::walk::step_node;
 use lent::room::is_lent;
 use lent::shape::is_fit;
 use monitor::table::is_compiled;
+use terms::limit::STEPS;
 ghost use mathlib.Core.Path.{_≡_};
-ghost use Rattle.node_step.specs.Memory.{Memory};
-ghost use Rattle.lent.specs.Lent.{Known, ruleMon};
+ghost use Rattle.node_step.specs.Memory.{entries};
+ghost use Rattle.lent.specs.Lent.{Known, ruleMon, monitorOf, tables};
 ghost use Rattle.stepping.specs.Call.{Answers, Fit, acceptOf, stepMon, stepCall};
 
 // Whether a call was taken, and if so whether the rule is newly broken by it; or the refusal.
@@ -33,8 +34,12 @@ pub fn step_fit(
     s: u64,
     w: u64,
 ) -> Verdict
-    requires { ⌜ Fit (record { ops = now ops; nums = now nums; first = first; count = count; nodes = now nodes; nfirst = nfirst; ncount = ncount }) (record { size = size; forms = now forms; bounds = now bounds; memory = record { held = now held; remaining = now remaining; failed = now failed; culprits = now culprits } }) s ⌝ }
-    ensures { λ r. ⌜ Answers (acceptOf (record { ops = now (ops .entry); nums = now (nums .entry); first = first; count = count; nodes = now (nodes .entry); nfirst = nfirst; ncount = ncount }) (record { size = size; forms = now (forms .entry); bounds = now (bounds .entry); memory = record { held = now (held .entry); remaining = now (remaining .entry); failed = now (failed .entry); culprits = now (culprits .entry) } }) s w) r (record { held = now (held .exit); remaining = now (remaining .exit); failed = now (failed .exit); culprits = now (culprits .exit) }) ⌝ }
+    requires { ⌜ Fit (tables (now ops) (now nums) first count (now nodes) nfirst ncount)
+        (monitorOf size (now forms) (now bounds) (entries (now held) (now remaining) (now failed) (now culprits))) s ⌝ }
+    ensures { λ r. ⌜ Answers (acceptOf (tables (now (ops .entry)) (now (nums .entry)) first count (now (nodes .entry)) nfirst ncount)
+        (monitorOf size (now (forms .entry)) (now (bounds .entry))
+        (entries (now (held .entry)) (now (remaining .entry)) (now (failed .entry)) (now (culprits .entry)))) s w) r
+        (entries (now (held .exit)) (now (remaining .exit)) (now (failed .exit)) (now (culprits .exit))) ⌝ }
 {
     let before = failed[0];
     step_node(
@@ -75,8 +80,12 @@ fn step_compiled(
     s: u64,
     w: u64,
 ) -> Verdict
-    requires { ⌜ Known (record { ops = now ops; nums = now nums; first = first; count = count; nodes = now nodes; nfirst = nfirst; ncount = ncount }) (record { size = size; forms = now forms; bounds = now bounds; memory = record { held = now held; remaining = now remaining; failed = now failed; culprits = now culprits } }) ⌝ }
-    ensures { λ r. ⌜ Answers (stepMon (ruleMon (record { ops = now (ops .entry); nums = now (nums .entry); first = first; count = count; nodes = now (nodes .entry); nfirst = nfirst; ncount = ncount })) (record { size = size; forms = now (forms .entry); bounds = now (bounds .entry); memory = record { held = now (held .entry); remaining = now (remaining .entry); failed = now (failed .entry); culprits = now (culprits .entry) } }) s w) r (record { held = now (held .exit); remaining = now (remaining .exit); failed = now (failed .exit); culprits = now (culprits .exit) }) ⌝ }
+    requires { ⌜ Known (tables (now ops) (now nums) first count (now nodes) nfirst ncount)
+        (monitorOf size (now forms) (now bounds) (entries (now held) (now remaining) (now failed) (now culprits))) ⌝ }
+    ensures { λ r. ⌜ Answers (stepMon (ruleMon (tables (now (ops .entry)) (now (nums .entry)) first count (now (nodes .entry)) nfirst ncount))
+        (monitorOf size (now (forms .entry)) (now (bounds .entry))
+        (entries (now (held .entry)) (now (remaining .entry)) (now (failed .entry)) (now (culprits .entry)))) s w) r
+        (entries (now (held .exit)) (now (remaining .exit)) (now (failed .exit)) (now (culprits .exit))) ⌝ }
 {
     if is_fit(
         nodes,
@@ -90,7 +99,7 @@ fn step_compiled(
         failed,
         culprits,
     ) {
-        if s < 9223372036854775808 {
+        if s < STEPS {
             return step_fit(
                 ops,
                 nums,
@@ -134,7 +143,10 @@ pub fn step(
     s: u64,
     w: u64,
 ) -> Verdict
-    ensures { λ r. ⌜ Answers (stepCall (record { ops = now (ops .entry); nums = now (nums .entry); first = first; count = count; nodes = now (nodes .entry); nfirst = nfirst; ncount = ncount }) (record { size = size; forms = now (forms .entry); bounds = now (bounds .entry); memory = record { held = now (held .entry); remaining = now (remaining .entry); failed = now (failed .entry); culprits = now (culprits .entry) } }) s w) r (record { held = now (held .exit); remaining = now (remaining .exit); failed = now (failed .exit); culprits = now (culprits .exit) }) ⌝ }
+    ensures { λ r. ⌜ Answers (stepCall (tables (now (ops .entry)) (now (nums .entry)) first count (now (nodes .entry)) nfirst ncount)
+        (monitorOf size (now (forms .entry)) (now (bounds .entry))
+        (entries (now (held .entry)) (now (remaining .entry)) (now (failed .entry)) (now (culprits .entry)))) s w) r
+        (entries (now (held .exit)) (now (remaining .exit)) (now (failed .exit)) (now (culprits .exit))) ⌝ }
 {
     if is_lent(
         ops,

@@ -2,13 +2,14 @@
 use lent::room::is_lent;
 use monitor::table::is_compiled;
 ghost use mathlib.Core.Path.{_≡_};
-ghost use mathlib.Core.Bool.{Bool, true, false};
+ghost use mathlib.Core.Bool.{false};
 ghost use Prim.Native.Nat.{_+_, _*_, _≤_};
 ghost use lib.ListN.{length, replicate};
 ghost use lib.Seq.{sets};
 ghost use Rattle.meaning.specs.Culprit.{minus-one};
-ghost use Rattle.node_step.specs.Memory.{Memory};
-ghost use Rattle.stepping.specs.Fresh.{column, MakeReady, Makes, freshOf, freshCall};
+ghost use Rattle.node_step.specs.Memory.{entries};
+ghost use Rattle.stepping.specs.Fresh.{column, MakeReady, Makes, freshCall};
+ghost use Rattle.lent.specs.Lent.{tables};
 
 // The monitor was made for so many nodes; or the refusal.
 pub enum Outcome {
@@ -72,8 +73,10 @@ fn make(
     failed: &mut [bool],
     culprits: &mut [i64],
 )
-    requires { ⌜ MakeReady (now nodes) nfirst ncount (now forms) (now bounds) (record { held = now held; remaining = now remaining; failed = now failed; culprits = now culprits }) ⌝ }
-    ensures { λ _. ⌜ Makes (now (nodes .entry)) nfirst ncount (now (forms .entry)) (now (bounds .entry)) (record { held = now (held .entry); remaining = now (remaining .entry); failed = now (failed .entry); culprits = now (culprits .entry) }) (now (forms .exit)) (now (bounds .exit)) (record { held = now (held .exit); remaining = now (remaining .exit); failed = now (failed .exit); culprits = now (culprits .exit) }) ⌝ }
+    requires { ⌜ MakeReady (now nodes) nfirst ncount (now forms) (now bounds) (entries (now held) (now remaining) (now failed) (now culprits)) ⌝ }
+    ensures { λ _. ⌜ Makes (now (nodes .entry)) nfirst ncount (now (forms .entry)) (now (bounds .entry))
+        (entries (now (held .entry)) (now (remaining .entry)) (now (failed .entry)) (now (culprits .entry))) (now (forms .exit)) (now (bounds .exit))
+        (entries (now (held .exit)) (now (remaining .exit)) (now (failed .exit)) (now (culprits .exit))) ⌝ }
 {
     copy_column(nodes, 0, nfirst, forms, ncount);
     copy_column(nodes, 1, nfirst, bounds, ncount);
@@ -99,7 +102,9 @@ pub fn fresh(
     failed: &mut [bool],
     culprits: &mut [i64],
 ) -> Outcome
-    ensures { λ r. ⌜ freshCall (record { ops = now (ops .entry); nums = now (nums .entry); first = first; count = count; nodes = now (nodes .entry); nfirst = nfirst; ncount = ncount }) (now (forms .entry)) (now (bounds .entry)) (record { held = now (held .entry); remaining = now (remaining .entry); failed = now (failed .entry); culprits = now (culprits .entry) }) r (now (forms .exit)) (now (bounds .exit)) (record { held = now (held .exit); remaining = now (remaining .exit); failed = now (failed .exit); culprits = now (culprits .exit) }) ⌝ }
+    ensures { λ r. ⌜ freshCall (tables (now (ops .entry)) (now (nums .entry)) first count (now (nodes .entry)) nfirst ncount) (now (forms .entry))
+        (now (bounds .entry)) (entries (now (held .entry)) (now (remaining .entry)) (now (failed .entry)) (now (culprits .entry))) r
+        (now (forms .exit)) (now (bounds .exit)) (entries (now (held .exit)) (now (remaining .exit)) (now (failed .exit)) (now (culprits .exit))) ⌝ }
 {
     if is_lent(
         ops,

@@ -8,10 +8,9 @@ use node_step::joined::finish;
 use node_step::joined::joined_now;
 use node_step::joined::parts_of;
 ghost use mathlib.Core.Path.{_≡_};
-ghost use mathlib.Core.Bool.{Bool, true, false};
+ghost use mathlib.Core.Bool.{false};
 ghost use Prim.Native.Nat.{_+_, _<_};
-ghost use Rattle.monitor.specs.Table.{rowOf};
-ghost use Rattle.node_step.specs.Memory.{Memory};
+ghost use Rattle.node_step.specs.Memory.{entries};
 ghost use Rattle.stepping.specs.Walk.{NodeStepped, Walkable, Leaf, Pair};
 
 // Whether a node is failing now, and the node behind its parts.
@@ -35,8 +34,10 @@ fn step_leaf(
     s: u64,
     w: u64,
 ) -> NodeOut
-    requires { ⌜ Leaf (now ops) (now nums) (now nodes) nfirst (record { held = now held; remaining = now remaining; failed = now failed; culprits = now culprits }) node k s ⌝ }
-    ensures { λ r. ⌜ NodeStepped (now (ops .entry)) (now (nums .entry)) (now (nodes .entry)) nfirst (record { held = now (held .entry); remaining = now (remaining .entry); failed = now (failed .entry); culprits = now (culprits .entry) }) k s w (record { held = now (held .exit); remaining = now (remaining .exit); failed = now (failed .exit); culprits = now (culprits .exit) }) r ⌝ }
+    requires { ⌜ Leaf (now ops) (now nums) (now nodes) nfirst (entries (now held) (now remaining) (now failed) (now culprits)) node k s ⌝ }
+    ensures { λ r. ⌜ NodeStepped (now (ops .entry)) (now (nums .entry)) (now (nodes .entry)) nfirst
+        (entries (now (held .entry)) (now (remaining .entry)) (now (failed .entry)) (now (culprits .entry))) k s w
+        (entries (now (held .exit)) (now (remaining .exit)) (now (failed .exit)) (now (culprits .exit))) r ⌝ }
 {
     let now = step_check(ops, nums, node, held, remaining, failed, culprits, k, s, w);
     NodeOut { now, next: k + 1 }
@@ -57,8 +58,10 @@ fn step_pair(
     s: u64,
     w: u64,
 ) -> NodeOut
-    requires { ⌜ Pair (now ops) (now nums) (now nodes) nfirst (record { held = now held; remaining = now remaining; failed = now failed; culprits = now culprits }) any k s ⌝ }
-    ensures { λ r. ⌜ NodeStepped (now (ops .entry)) (now (nums .entry)) (now (nodes .entry)) nfirst (record { held = now (held .entry); remaining = now (remaining .entry); failed = now (failed .entry); culprits = now (culprits .entry) }) k s w (record { held = now (held .exit); remaining = now (remaining .exit); failed = now (failed .exit); culprits = now (culprits .exit) }) r ⌝ }
+    requires { ⌜ Pair (now ops) (now nums) (now nodes) nfirst (entries (now held) (now remaining) (now failed) (now culprits)) any k s ⌝ }
+    ensures { λ r. ⌜ NodeStepped (now (ops .entry)) (now (nums .entry)) (now (nodes .entry)) nfirst
+        (entries (now (held .entry)) (now (remaining .entry)) (now (failed .entry)) (now (culprits .entry))) k s w
+        (entries (now (held .exit)) (now (remaining .exit)) (now (failed .exit)) (now (culprits .exit))) r ⌝ }
 {
     let left = step_node(
         ops,
@@ -119,8 +122,10 @@ pub fn step_node(
     s: u64,
     w: u64,
 ) -> NodeOut
-    requires { ⌜ Walkable (now ops) (now nums) (now nodes) nfirst (record { held = now held; remaining = now remaining; failed = now failed; culprits = now culprits }) k s ⌝ }
-    ensures { λ r. ⌜ NodeStepped (now (ops .entry)) (now (nums .entry)) (now (nodes .entry)) nfirst (record { held = now (held .entry); remaining = now (remaining .entry); failed = now (failed .entry); culprits = now (culprits .entry) }) k s w (record { held = now (held .exit); remaining = now (remaining .exit); failed = now (failed .exit); culprits = now (culprits .exit) }) r ⌝ }
+    requires { ⌜ Walkable (now ops) (now nums) (now nodes) nfirst (entries (now held) (now remaining) (now failed) (now culprits)) k s ⌝ }
+    ensures { λ r. ⌜ NodeStepped (now (ops .entry)) (now (nums .entry)) (now (nodes .entry)) nfirst
+        (entries (now (held .entry)) (now (remaining .entry)) (now (failed .entry)) (now (culprits .entry))) k s w
+        (entries (now (held .exit)) (now (remaining .exit)) (now (failed .exit)) (now (culprits .exit))) r ⌝ }
 {
     let Row::Node(node) = row_at(nodes, nfirst + k) else {
         return NodeOut {

@@ -7,7 +7,7 @@ use Prim.Native.Nat.{ℕ, _<_}
 use native.Mathlib.Omega.{arith}
 use lib.ListN.{length, length-map}
 use Rattle.reader.specs.Answer.{Reads}
-use Rattle.reader.specs.Tables.{Tables}
+use Rattle.reader.specs.Tables.{BookTables}
 use Rattle.reader.specs.declared.read.Answer.the-variants.{Refused}
 use Rattle.reader.proofs.Answers.{refused-inv}
 use Rattle.node_table.specs.Node.{opsOf, numsOf}
@@ -20,7 +20,7 @@ pub short-refused : (text : List ℕ) (l : RuleList) (table : List FormulaNode) 
 short-refused text l table h = short-reads text (withTable l (opsOf table) (numsOf table)) (omega (arith, length-map table (λ x. x .op)))
 
 pub refused-keeps : (text : List ℕ) (l l′ : RuleList) (table table′ : List FormulaNode) (n k : ℕ) → Reads text (withTable l (opsOf table) (numsOf table)) (Refused n k) (withTable l′ (opsOf table′) (numsOf table′)) → table′ ≡ table
-refused-keeps text l l′ table table′ n k u = same-table table′ table (ap (λ (t : Tables). t .ops) same) (ap (λ (t : Tables). t .nums) same)
+refused-keeps text l l′ table table′ n k u = same-table table′ table (ap (λ (t : BookTables). t .ops) same) (ap (λ (t : BookTables). t .nums) same)
   where
     same : withTable l′ (opsOf table′) (numsOf table′) ≡ withTable l (opsOf table) (numsOf table)
     same = refused-inv text (withTable l (opsOf table) (numsOf table)) (withTable l′ (opsOf table′) (numsOf table′)) n k u .1

@@ -8,10 +8,10 @@ use borrow.Author.Tests.{le-leb}
 use lib.Dec.{leb}
 use lib.ListN.{length, take, drop, length-append, replicate, length-replicate}
 use lib.Seq.{take-at}
-use Rattle.number.specs.Number.{pick}
+use Rattle.terms.specs.Choice.{pick}
 use Rattle.book.specs.Book.{Book, Outcome, accepted, refused, bookResult, read}
 use Rattle.reader.specs.Answer.{Reads, Roomy}
-use Rattle.reader.specs.Tables.{Tables, over, written, roomy, readInto, after}
+use Rattle.reader.specs.Tables.{BookTables, over, written, roomy, readInto, after}
 use Rattle.reader.specs.declared.read.Answer.{Answer}
 use Rattle.reader.specs.declared.read.Answer.the-variants.{Read, Refused}
 use Rattle.reader.proofs.Answers.{read-inv, refused-inv}
@@ -27,7 +27,7 @@ abbrev filled : Answer → ℕ → List ℕ → List ℕ → Filling
 filled a n os ns = record { answer = a; columns = record { count = n; ops = os; nums = ns } }
 
 -- ---- a table of less than 1,024 nodes
-pub short-reads : (text : List ℕ) (t : Tables) → length (t .ops) < 1024 → Reads text t (Refused 1 0) t
+pub short-reads : (text : List ℕ) (t : BookTables) → length (t .ops) < 1024 → Reads text t (Refused 1 0) t
 unfolding readInto after
 short-reads text t h = go (roomy t) refl
   where
@@ -47,7 +47,7 @@ same-room : (l : RuleList) (ops nums o₀ n₀ : List ℕ) → 1024 ≤ length o
 unfolding roomy
 same-room l ops nums o₀ n₀ a b c d = rw (le-leb 1024 (length ops) a, le-leb 1024 (length nums) b, le-leb 1024 (length o₀) c, le-leb 1024 (length n₀) d) refl
 
-same-read : (text : List ℕ) (t u : Tables) → roomy t ≡ roomy u → readInto text t ≡ readInto text u
+same-read : (text : List ℕ) (t u : BookTables) → roomy t ≡ roomy u → readInto text t ≡ readInto text u
 unfolding readInto
 same-read text t u e = ap (λ (m : Bool). pick m (read text) (refused 1 0)) e
 
@@ -76,18 +76,18 @@ module _ (len : ℕ) (text : List ℕ) (l l′ : RuleList) (o₀ n₀ os ns : Li
       tables = tables-eq
           (withTable l′ (front n os ops) (front n ns nums))
           (written b (withTable l ops nums))
-          (ap (λ (t : Tables). t .labels) w)
-          (ap (λ (t : Tables). t .lens) w)
-          (ap (λ (t : Tables). t .kinds) w)
-          (ap (λ (t : Tables). t .firsts) w)
-          (ap (λ (t : Tables). t .counts) w)
-          (over-front (b .ops) o₀ ops os n (ap (λ (t : Tables). t .ops) w) n-is)
-          (over-front (b .nums) n₀ nums ns n (ap (λ (t : Tables). t .nums) w) n-nums)
+          (ap (λ (t : BookTables). t .labels) w)
+          (ap (λ (t : BookTables). t .lens) w)
+          (ap (λ (t : BookTables). t .kinds) w)
+          (ap (λ (t : BookTables). t .firsts) w)
+          (ap (λ (t : BookTables). t .counts) w)
+          (over-front (b .ops) o₀ ops os n (ap (λ (t : BookTables). t .ops) w) n-is)
+          (over-front (b .nums) n₀ nums ns n (ap (λ (t : BookTables). t .nums) w) n-nums)
           ∙ ap (λ (o : Outcome). after o (withTable l ops nums)) (sym (same ops nums eo en ∙ is));
     };
     inside = record {
-      ops = over-inside (b .ops) o₀ os n (ap (λ (t : Tables). t .ops) w) n-is;
-      nums = over-inside (b .nums) n₀ ns n (ap (λ (t : Tables). t .nums) w) n-nums;
+      ops = over-inside (b .ops) o₀ os n (ap (λ (t : BookTables). t .ops) w) n-is;
+      nums = over-inside (b .nums) n₀ ns n (ap (λ (t : BookTables). t .nums) w) n-nums;
     };
     fits = omega (arith, n-is, sound .less);
   }
@@ -121,11 +121,11 @@ module _ (len : ℕ) (text : List ℕ) (l l′ : RuleList) (o₀ n₀ os ns : Li
       tables = tables-eq
           (withTable l′ ops nums)
           (withTable l ops nums)
-          (ap (λ (t : Tables). t .labels) w)
-          (ap (λ (t : Tables). t .lens) w)
-          (ap (λ (t : Tables). t .kinds) w)
-          (ap (λ (t : Tables). t .firsts) w)
-          (ap (λ (t : Tables). t .counts) w)
+          (ap (λ (t : BookTables). t .labels) w)
+          (ap (λ (t : BookTables). t .lens) w)
+          (ap (λ (t : BookTables). t .kinds) w)
+          (ap (λ (t : BookTables). t .firsts) w)
+          (ap (λ (t : BookTables). t .counts) w)
           refl
           refl
           ∙ ap (λ (o : Outcome). after o (withTable l ops nums)) (sym (same ops nums eo en ∙ is));

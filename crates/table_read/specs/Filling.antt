@@ -8,7 +8,7 @@ use Prim.Native.Nat.{ℕ, _≤_}
 use lib.ListN.{length}
 use Rattle.node_table.specs.Columns.{Inside, front}
 use Rattle.reader.specs.Answer.{Reads}
-use Rattle.reader.specs.Tables.{Tables}
+use Rattle.reader.specs.Tables.{BookTables}
 use Rattle.reader.specs.declared.read.Answer.{Answer}
 use Rattle.reader.specs.declared.read.Answer.the-variants.{Read, Refused}
 use Rattle.table_read.specs.declared.Filling.{Filling}
@@ -20,7 +20,10 @@ pub record RuleList : Type 0 where
   pub firsts : List ℕ
   pub counts : List ℕ
 
-abbrev pub withTable : RuleList → List ℕ → List ℕ → Tables
+abbrev pub rulesIn : List ℕ → List ℕ → List ℕ → List ℕ → List ℕ → RuleList
+rulesIn labels lens kinds firsts counts = record { labels = labels; lens = lens; kinds = kinds; firsts = firsts; counts = counts }
+
+abbrev pub withTable : RuleList → List ℕ → List ℕ → BookTables
 withTable l ops nums = record { labels = l .labels; lens = l .lens; kinds = l .kinds; firsts = l .firsts; counts = l .counts; ops = ops; nums = nums }
 
 -- the count of nodes in an answer

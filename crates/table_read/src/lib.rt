@@ -5,10 +5,12 @@ use node_table::FormulaNode;
 use node_table::pack;
 use reader::read::Answer;
 use reader::read::read_book;
+use terms::limit::BOOK_NODES;
 ghost use mathlib.Core.Path.{_≡_};
 ghost use Rattle.node_table.specs.Node.{opsOf, numsOf};
 ghost use Rattle.reader.specs.Answer.{Reads};
-ghost use Rattle.table_read.specs.Filling.{Fills, nodesOf};
+ghost use Rattle.table_read.specs.Filling.{Fills, nodesOf, rulesIn};
+ghost use Rattle.reader.specs.Tables.{columns};
 
 // The answer, and the book's nodes in columns.
 pub struct Filling {
@@ -36,11 +38,13 @@ fn read_columns(
     firsts: &mut [usize],
     counts: &mut [usize],
 ) -> Filling
-    ensures { λ r. ⌜ Fills len (now (text .entry)) (record { labels = now (labels .entry); lens = now (lens .entry); kinds = now (kinds .entry); firsts = now (firsts .entry); counts = now (counts .entry) }) r (record { labels = now (labels .exit); lens = now (lens .exit); kinds = now (kinds .exit); firsts = now (firsts .exit); counts = now (counts .exit) }) ⌝ }
+    ensures { λ r. ⌜ Fills len (now (text .entry))
+        (rulesIn (now (labels .entry)) (now (lens .entry)) (now (kinds .entry)) (now (firsts .entry)) (now (counts .entry))) r
+        (rulesIn (now (labels .exit)) (now (lens .exit)) (now (kinds .exit)) (now (firsts .exit)) (now (counts .exit))) ⌝ }
 {
-    let mut ops = [0u8; 1024];
-    let mut nums = [0u64; 1024];
-    if len < 1024 {
+    let mut ops = [0u8; BOOK_NODES];
+    let mut nums = [0u64; BOOK_NODES];
+    if len < BOOK_NODES {
         let columns = Columns {
             count: 0,
             ops,
@@ -77,7 +81,11 @@ pub fn read_table(
     counts: &mut [usize],
     table: &mut [FormulaNode],
 ) -> Answer
-    ensures { λ r. ⌜ Reads (now (text .entry)) (record { labels = now (labels .entry); lens = now (lens .entry); kinds = now (kinds .entry); firsts = now (firsts .entry); counts = now (counts .entry); ops = opsOf (now (table .entry)); nums = numsOf (now (table .entry)) }) r (record { labels = now (labels .exit); lens = now (lens .exit); kinds = now (kinds .exit); firsts = now (firsts .exit); counts = now (counts .exit); ops = opsOf (now (table .exit)); nums = numsOf (now (table .exit)) }) ⌝ }
+    ensures { λ r. ⌜ Reads (now (text .entry))
+        (columns (now (labels .entry)) (now (lens .entry)) (now (kinds .entry)) (now (firsts .entry)) (now (counts .entry))
+        (opsOf (now (table .entry))) (numsOf (now (table .entry)))) r
+        (columns (now (labels .exit)) (now (lens .exit)) (now (kinds .exit)) (now (firsts .exit)) (now (counts .exit)) (opsOf (now (table .exit)))
+        (numsOf (now (table .exit)))) ⌝ }
 {
     let f = read_columns(table.len(), text, labels, lens, kinds, firsts, counts);
     pack(table, f.columns);

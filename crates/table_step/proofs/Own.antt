@@ -7,7 +7,7 @@ use lib.ListN.{take}
 use Rattle.formula.specs.Formula.{Formula}
 use Rattle.monitor.specs.Mon.{Mon}
 use Rattle.monitor.specs.Table.{compiledOf, monBy}
-use Rattle.lent.specs.Lent.{Tables, ruleMon}
+use Rattle.lent.specs.Lent.{LentTables, ruleMon}
 use Rattle.stepping.specs.Call.{stepCall}
 use Rattle.stepping.specs.Fresh.{making}
 use Rattle.in_place.specs.InPlace.{stepIn, freshIn}
@@ -20,7 +20,7 @@ use Rattle.table_step.specs.Over.{over}
 
 module _ (table : List FormulaNode) (first count : ℕ) (nodes : List ℕ) (nfirst ncount : ℕ) (c : Columns) (u : Unpacked table first count c) where
   -- the tables of the call over the columns
-  abbrev pub columned : Tables
+  abbrev pub columned : LentTables
   columned = record { ops = take (c .count) (c .ops); nums = take (c .count) (c .nums); first = first; count = count; nodes = nodes; nfirst = nfirst; ncount = ncount }
 
   mon-own : ruleMon columned ≡ ruleMon (over table first count nodes nfirst ncount)

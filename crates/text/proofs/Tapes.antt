@@ -16,9 +16,8 @@ use borrow.Author.Tests.{lt-ltb, le-ltb, ltb-true}
 use lib.Dec.{T, ltb}
 use lib.ListN.{length, set, getD, take, drop, length-set}
 use lib.Seq.{sets, sets-eq, take-suc, take-length, take-at, drop-at}
-use Rattle.number.specs.Number.{pick}
 use Rattle.number.proofs.Numbers.{below-or}
-use Rattle.book_laws.specs.Write.{digits, decimal}
+use Rattle.number.specs.Digits.{digits, decimal}
 use Rattle.text.specs.Tape.{Tape, tape, put, puts, Wrote, joined, signed, Culprit, nobody, step}
 
 -- ---- one text behind another

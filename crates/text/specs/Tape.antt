@@ -1,7 +1,7 @@
 -- Text in lent memory: a tape is a lent slice and the place where the next byte goes.
 --     puts       writing bytes: one for which there is no room is left out, and the place stays
 --     Wrote      a tape after some text
---     decimal    (crate book_laws) a number's decimal digits, the same as in a book
+--     decimal    (crate number) a number's decimal digits, the same as in a book
 -- `wrote-all` (proofs/Tapes.antt): a text that fits stands there whole, and the rest is as before.
 use mathlib.Core.Path.{_≡_}
 use mathlib.Core.List.{List, [], _∷_, _++_}
@@ -9,8 +9,8 @@ use Prim.Native.Nat.{ℕ, suc, _+_, _≤_}
 use lib.Dec.{ltb}
 use lib.IntN.{ℤ, pos, negsuc}
 use lib.ListN.{length, set}
-use Rattle.number.specs.Number.{pick}
-use Rattle.book_laws.specs.Write.{decimal}
+use Rattle.terms.specs.Choice.{pick}
+use Rattle.number.specs.Digits.{decimal}
 
 pub data Tape : Type 0 where
   tape : List ℕ → ℕ → Tape

@@ -1,6 +1,6 @@
 // Bytes and numbers, each written at a place of a lent slice. The answer is the place behind them.
 ghost use mathlib.Core.List.{[], _∷_};
-ghost use Rattle.book_laws.specs.Write.{decimal};
+ghost use Rattle.number.specs.Digits.{decimal};
 ghost use Rattle.text.specs.Tape.{tape, Wrote, signed, Culprit};
 
 // One byte.

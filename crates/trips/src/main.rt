@@ -17,6 +17,12 @@ use stepping::call::Verdict;
 use stepping::call::step;
 use stepping::fresh::Outcome;
 use stepping::fresh::fresh;
+use terms::limit::BOOK_NODES;
+use terms::limit::BOOK_RULES;
+use terms::limit::NODE_CELLS;
+use terms::limit::OWED_ROOM;
+use terms::limit::RULE_NODES;
+use terms::limit::SKELETON_ROOM;
 
 pub mod several;
 
@@ -135,12 +141,12 @@ fn show_reports(
     nodes: &[u64],
     ncount: usize,
 ) {
-    let mut forms = [0u64; 256];
-    let mut bounds = [0u64; 256];
-    let mut held = [false; 256];
-    let mut remaining = [0u64; 256];
-    let mut failed = [false; 256];
-    let mut culprits = [0i64; 256];
+    let mut forms = [0u64; RULE_NODES];
+    let mut bounds = [0u64; RULE_NODES];
+    let mut held = [false; RULE_NODES];
+    let mut remaining = [0u64; RULE_NODES];
+    let mut failed = [false; RULE_NODES];
+    let mut culprits = [0i64; RULE_NODES];
     let made = fresh(
         ops,
         nums,
@@ -278,7 +284,7 @@ fn show_entry(ops: &[u8], nums: &[u64], kind: u64, n: u64) {
 }
 
 fn show_entry_at(ops: &[u8], nums: &[u64], skeleton: &[u64], k: usize) {
-    if 256 <= k {
+    if RULE_NODES <= k {
         return;
     }
     let i = 2 * k;
@@ -298,8 +304,8 @@ fn show_skeleton(ops: &[u8], nums: &[u64], skeleton: &[u64], n: usize) {
 
 // The split of a property.
 fn show_live(ops: &[u8], nums: &[u64], first: usize, count: usize) {
-    let mut skeleton = [0u64; 512];
-    let mut owed = [0u64; 768];
+    let mut skeleton = [0u64; SKELETON_ROOM];
+    let mut owed = [0u64; OWED_ROOM];
     let answer = split(ops, nums, first, count, false, &mut skeleton, &mut owed);
     match answer {
         Liveness::None => put(b", live none"),
@@ -317,7 +323,7 @@ fn show_live(ops: &[u8], nums: &[u64], first: usize, count: usize) {
 
 // The rule of `count` nodes at `first`, over the steps of its book.
 fn run_rule(text: &[u8], steps_at: usize, ops: &[u8], nums: &[u64], first: usize, count: usize) {
-    let mut nodes = [0u64; 1792];
+    let mut nodes = [0u64; NODE_CELLS];
     match compile_formula(ops, nums, first, count, &mut nodes) {
         Compiled::Refused(n) => show(b": compile ", n),
         Compiled::Nodes(n) => {
@@ -333,12 +339,12 @@ fn run_rule(text: &[u8], steps_at: usize, ops: &[u8], nums: &[u64], first: usize
 // A book of one rule.
 fn run_book(text: &[u8]) {
     let mut labels = [0u8; 2048];
-    let mut lens = [0usize; 64];
-    let mut kinds = [0u8; 64];
-    let mut firsts = [0usize; 64];
-    let mut counts = [0usize; 64];
-    let mut ops = [0u8; 1024];
-    let mut nums = [0u64; 1024];
+    let mut lens = [0usize; BOOK_RULES];
+    let mut kinds = [0u8; BOOK_RULES];
+    let mut firsts = [0usize; BOOK_RULES];
+    let mut counts = [0usize; BOOK_RULES];
+    let mut ops = [0u8; BOOK_NODES];
+    let mut nums = [0u64; BOOK_NODES];
     let answer = read_book(
         text,
         &mut labels,

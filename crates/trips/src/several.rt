@@ -7,29 +7,32 @@ use alike::Part;
 use alike::alike;
 use compiler::Compiled;
 use compiler::compile_formula;
-use layout::book::Laid;
+use layout::book::BookLayout;
 use layout::book::layout;
 use reader::read::Answer;
 use reader::read::read_book;
+use terms::limit::BOOK_NODES;
+use terms::limit::BOOK_RULES;
+use terms::limit::RULE_NODES;
 ghost use Prim.Native.Nat.{_<_};
 
 // Compiles rule r into the rows from row `at` on, and enters its rows and its refusal. Answers the row behind.
 fn compile_one(
     ops: &[u8],
     nums: &[u64],
-    firsts: &[usize; 64],
-    counts: &[usize; 64],
+    firsts: &[usize; BOOK_RULES],
+    counts: &[usize; BOOK_RULES],
     r: usize,
     nodes: &mut [u64],
     at: usize,
-    nfirsts: &mut [usize; 64],
-    ncounts: &mut [usize; 64],
-    refusals: &mut [u64; 64],
+    nfirsts: &mut [usize; BOOK_RULES],
+    ncounts: &mut [usize; BOOK_RULES],
+    refusals: &mut [u64; BOOK_RULES],
 ) -> usize {
     if 64 <= r {
         return at;
     }
-    if 256 < at {
+    if RULE_NODES < at {
         return at;
     }
     let from = 7 * at;
@@ -46,7 +49,7 @@ fn compile_one(
         Compiled::Nodes(n) => {
             ncounts[r] = n;
             refusals[r] = 0;
-            if 256 < n {
+            if RULE_NODES < n {
                 return at;
             }
             return at + n;
@@ -57,13 +60,13 @@ fn compile_one(
 fn compile_all(
     ops: &[u8],
     nums: &[u64],
-    firsts: &[usize; 64],
-    counts: &[usize; 64],
+    firsts: &[usize; BOOK_RULES],
+    counts: &[usize; BOOK_RULES],
     n: usize,
     nodes: &mut [u64],
-    nfirsts: &mut [usize; 64],
-    ncounts: &mut [usize; 64],
-    refusals: &mut [u64; 64],
+    nfirsts: &mut [usize; BOOK_RULES],
+    ncounts: &mut [usize; BOOK_RULES],
+    refusals: &mut [u64; BOOK_RULES],
 ) {
     let mut at: usize = 0;
     let mut r: usize = 0;
@@ -85,7 +88,12 @@ fn compile_all(
 }
 
 // The place of rule r, or its refusal.
-fn show_rule(refusals: &[u64; 64], starts: &[u64; 64], bits: &[u64; 64], r: usize) {
+fn show_rule(
+    refusals: &[u64; BOOK_RULES],
+    starts: &[u64; BOOK_RULES],
+    bits: &[u64; BOOK_RULES],
+    r: usize,
+) {
     if 64 <= r {
         return;
     }
@@ -98,7 +106,12 @@ fn show_rule(refusals: &[u64; 64], starts: &[u64; 64], bits: &[u64; 64], r: usiz
     show(b" bits ", bits[r]);
 }
 
-fn show_rules(refusals: &[u64; 64], starts: &[u64; 64], bits: &[u64; 64], n: usize) {
+fn show_rules(
+    refusals: &[u64; BOOK_RULES],
+    starts: &[u64; BOOK_RULES],
+    bits: &[u64; BOOK_RULES],
+    n: usize,
+) {
     let mut r: usize = 0;
     while r < n {
         show_rule(refusals, starts, bits, r);
@@ -110,17 +123,17 @@ fn show_rules(refusals: &[u64; 64], starts: &[u64; 64], bits: &[u64; 64], n: usi
 fn show_layout(
     ops: &[u8],
     nums: &[u64],
-    firsts: &[usize; 64],
-    counts: &[usize; 64],
+    firsts: &[usize; BOOK_RULES],
+    counts: &[usize; BOOK_RULES],
     nodes: &[u64],
-    nfirsts: &[usize; 64],
-    ncounts: &[usize; 64],
-    kinds: &[u8; 64],
-    refusals: &[u64; 64],
+    nfirsts: &[usize; BOOK_RULES],
+    ncounts: &[usize; BOOK_RULES],
+    kinds: &[u8; BOOK_RULES],
+    refusals: &[u64; BOOK_RULES],
     n: usize,
 ) {
-    let mut starts = [0u64; 64];
-    let mut bits = [0u64; 64];
+    let mut starts = [0u64; BOOK_RULES];
+    let mut bits = [0u64; BOOK_RULES];
     match layout(
         ops,
         nums,
@@ -135,8 +148,8 @@ fn show_layout(
         &mut starts,
         &mut bits,
     ) {
-        Laid::Refused(k) => show(b" refused ", k),
-        Laid::Done => show_rules(refusals, &starts, &bits, n),
+        BookLayout::Refused(k) => show(b" refused ", k),
+        BookLayout::Done => show_rules(refusals, &starts, &bits, n),
     }
 }
 
@@ -144,13 +157,13 @@ fn show_layout(
 fn show_flagged(
     ops: &[u8],
     nums: &[u64],
-    firsts: &[usize; 64],
-    counts: &[usize; 64],
+    firsts: &[usize; BOOK_RULES],
+    counts: &[usize; BOOK_RULES],
     nodes: &[u64],
-    nfirsts: &[usize; 64],
-    ncounts: &[usize; 64],
-    kinds: &[u8; 64],
-    refusals: &mut [u64; 64],
+    nfirsts: &[usize; BOOK_RULES],
+    ncounts: &[usize; BOOK_RULES],
+    kinds: &[u8; BOOK_RULES],
+    refusals: &mut [u64; BOOK_RULES],
     n: usize,
     r: usize,
     flag: u64,
@@ -179,10 +192,10 @@ fn show_flagged(
 
 // Rule r in the tables.
 fn part_of(
-    firsts: &[usize; 64],
-    counts: &[usize; 64],
-    nfirsts: &[usize; 64],
-    ncounts: &[usize; 64],
+    firsts: &[usize; BOOK_RULES],
+    counts: &[usize; BOOK_RULES],
+    nfirsts: &[usize; BOOK_RULES],
+    ncounts: &[usize; BOOK_RULES],
     r: usize,
 ) -> Part
     requires { ⌜ r < 64 ⌝ }
@@ -199,11 +212,11 @@ fn part_of(
 fn show_alike(
     ops: &[u8],
     nums: &[u64],
-    firsts: &[usize; 64],
-    counts: &[usize; 64],
+    firsts: &[usize; BOOK_RULES],
+    counts: &[usize; BOOK_RULES],
     nodes: &[u64],
-    nfirsts: &[usize; 64],
-    ncounts: &[usize; 64],
+    nfirsts: &[usize; BOOK_RULES],
+    ncounts: &[usize; BOOK_RULES],
     q: usize,
     r: usize,
 ) {
@@ -228,13 +241,13 @@ fn show_alike(
 fn show_laid(
     ops: &[u8],
     nums: &[u64],
-    firsts: &[usize; 64],
-    counts: &[usize; 64],
+    firsts: &[usize; BOOK_RULES],
+    counts: &[usize; BOOK_RULES],
     nodes: &[u64],
-    nfirsts: &[usize; 64],
-    ncounts: &[usize; 64],
-    kinds: &[u8; 64],
-    refusals: &mut [u64; 64],
+    nfirsts: &[usize; BOOK_RULES],
+    ncounts: &[usize; BOOK_RULES],
+    kinds: &[u8; BOOK_RULES],
+    refusals: &mut [u64; BOOK_RULES],
     n: usize,
 ) {
     put(b"several laid out");
@@ -323,15 +336,15 @@ fn show_laid(
 fn run_rules(
     ops: &[u8],
     nums: &[u64],
-    firsts: &[usize; 64],
-    counts: &[usize; 64],
-    kinds: &[u8; 64],
+    firsts: &[usize; BOOK_RULES],
+    counts: &[usize; BOOK_RULES],
+    kinds: &[u8; BOOK_RULES],
     n: usize,
 ) {
     let mut nodes = [0u64; 3584];
-    let mut nfirsts = [0usize; 64];
-    let mut ncounts = [0usize; 64];
-    let mut refusals = [0u64; 64];
+    let mut nfirsts = [0usize; BOOK_RULES];
+    let mut ncounts = [0usize; BOOK_RULES];
+    let mut refusals = [0u64; BOOK_RULES];
     compile_all(
         ops,
         nums,
@@ -364,12 +377,12 @@ fn run_rules(
 
 fn run_book(text: &[u8]) {
     let mut labels = [0u8; 2048];
-    let mut lens = [0usize; 64];
-    let mut kinds = [0u8; 64];
-    let mut firsts = [0usize; 64];
-    let mut counts = [0usize; 64];
-    let mut ops = [0u8; 1024];
-    let mut nums = [0u64; 1024];
+    let mut lens = [0usize; BOOK_RULES];
+    let mut kinds = [0u8; BOOK_RULES];
+    let mut firsts = [0usize; BOOK_RULES];
+    let mut counts = [0usize; BOOK_RULES];
+    let mut ops = [0u8; BOOK_NODES];
+    let mut nums = [0u64; BOOK_NODES];
     let answer = read_book(
         text,
         &mut labels,

@@ -30,7 +30,7 @@ use Rattle.meaning.proofs.Steps.{first-alarm}
 use Rattle.book.specs.Book.{StepLine}
 use Rattle.reader.specs.Steps.{stepsFrom}
 use Rattle.lent.specs.Lent as lent
-use Rattle.lent.specs.Lent.{Tables, HoldsRule, Ready}
+use Rattle.lent.specs.Lent.{LentTables, HoldsRule, Ready}
 use Rattle.stepping.specs.Walk.{readMon, Blameless}
 use Rattle.stepping.specs.Call.{Stepping, accept, verdictOf, stepCall, with}
 use Rattle.stepping.specs.declared.fresh.Outcome.{Outcome}
@@ -69,7 +69,7 @@ unfolding told
 one-line true s c w o e = refl
 one-line false s c w o e = e
 
-module _ (t : Tables) (m : Mon) (a : HoldsRule t m) where
+module _ (t : LentTables) (m : Mon) (a : HoldsRule t m) where
   -- from a ready monitor on, a watch is what stepping its state over the truths finds
   watched-is : (ls : List StepLine) (k : Monitor) (s : ℕ) (st : State m) → Ready (monitorOf k) m → ReadsAs m k st → NumberedFrom s ls → s + length ls ≤ 9223372036854775808 → watched t k ls ≡ told (firstReport m st s (truthsOf ls))
   unfolding watched firstReport NumberedFrom stepIn told
@@ -125,7 +125,7 @@ module _ (m : Mon) (ls : List StepLine) where
       }
 
 -- ---- the whole watch
-module _ (t : Tables) (m : Mon) (a : HoldsRule t m) where
+module _ (t : LentTables) (m : Mon) (a : HoldsRule t m) where
   given-there : making t (blank .forms) (blank .bounds) (memoryOf blank) .answer ≡ given (t .ncount)
   unfolding making
   given-there =
@@ -150,7 +150,7 @@ pub rule-says : (text : List ℕ) (from : ℕ) (ops nums : List ℕ) (first coun
 unfolding ruleWatched
 rule-says text from ops nums first count f is-f n compiles e h =
     let out : List ℕ = replicate 1792 0 in
-    let t : Tables = compiledTables ops nums first count out n in
+    let t : LentTables = compiledTables ops nums first count out n in
     let a : HoldsRule t (ruleNode f first) = record { rule = own-table ops nums first count f is-f out n compiles; room = compiled-room ops nums first count out n compiles } in
     let q : ruleWatched text from ops nums first count ≡ compiledWatched t (stepsFrom text from) = ap (λ (r : Result ℕ). onCompiled r (λ j. compiledWatched (compiledTables ops nums first count out j) (stepsFrom text from))) compiles in
     subst (Says (ruleNode f first) (stepsFrom text from)) (sym q) (compiled-says t (ruleNode f first) a (stepsFrom text from) e h)

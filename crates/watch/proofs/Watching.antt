@@ -23,7 +23,7 @@ use Rattle.stepping.specs.declared.call.Verdict.{Verdict}
 use Rattle.stepping.specs.declared.call.Verdict.the-variants.{Accepted, Refused as NotStepped}
 use Rattle.stepping.specs.declared.fresh.Outcome.{Outcome}
 use Rattle.stepping.specs.declared.fresh.Outcome.the-variants.{Made, Refused as NotMade}
-use Rattle.lent.specs.Lent.{Tables}
+use Rattle.lent.specs.Lent.{LentTables}
 use Rattle.in_place.specs.declared.Monitor.{Monitor}
 use Rattle.in_place.specs.declared.step.Advanced.{Advanced}
 use Rattle.in_place.specs.declared.fresh.Started.{Started}
@@ -57,18 +57,18 @@ goes-on (Accepted false) s c rest e = refl
 goes-on (NotStepped n) s c rest e = true-false refl e
 
 -- ---- the loop: what is left from a place on, by the monitor as it stands, is what the whole gives
-pub record Left (t : Tables) (m : Monitor) (text : List ℕ) (from : ℕ) (k : Monitor) (at : ℕ) : Type 0 where
+pub record Left (t : LentTables) (m : Monitor) (text : List ℕ) (from : ℕ) (k : Monitor) (at : ℕ) : Type 0 where
   pub is : watched t m (stepsFrom text from) ≡ watched t k (stepsFrom text at)
 
-pub left-first : (t : Tables) (m : Monitor) (text : List ℕ) (from : ℕ) → Left t m text from m from
+pub left-first : (t : LentTables) (m : Monitor) (text : List ℕ) (from : ℕ) → Left t m text from m from
 left-first t m text from = record { is = refl }
 
-pub left-end : (t : Tables) (m : Monitor) (text : List ℕ) (from : ℕ) (k : Monitor) (at : ℕ) (r : StepRead) → Left t m text from k at → stepResult r ≡ given (nextStep text at) → r ≡ End → Quiet ≡ watched t m (stepsFrom text from)
+pub left-end : (t : LentTables) (m : Monitor) (text : List ℕ) (from : ℕ) (k : Monitor) (at : ℕ) (r : StepRead) → Left t m text from k at → stepResult r ≡ given (nextStep text at) → r ≡ End → Quiet ≡ watched t m (stepsFrom text from)
 unfolding watched
 left-end t m text from k at r l h e = sym (l .is ∙ ap (watched t k) (none-left text at r h e))
 
 -- the next line is step s with truths w
-module _ (t : Tables) (m : Monitor) (text : List ℕ) (from : ℕ) (k : Monitor) (at : ℕ) (r : StepRead) (s w next : ℕ) (h : stepResult r ≡ given (nextStep text at)) (e : r ≡ Step s w next) where
+module _ (t : LentTables) (m : Monitor) (text : List ℕ) (from : ℕ) (k : Monitor) (at : ℕ) (r : StepRead) (s w next : ℕ) (h : stepResult r ≡ given (nextStep text at)) (e : r ≡ Step s w next) where
   pub fewer : length (stepsFrom text next) < length (stepsFrom text at)
   fewer = omega (arith, ap length (one-more text at r h s w next e))
 
@@ -86,13 +86,13 @@ module _ (t : Tables) (m : Monitor) (text : List ℕ) (from : ℕ) (k : Monitor)
     left-next j = record { is = whole ∙ sym (goes-on (a .verdict) s (rootCulprit (a .monitor)) (watched t (a .monitor) (stepsFrom text next)) (sym (ap isEnd g) ∙ sym i ∙ j)) }
 
 -- ---- a compiled rule, a rule
-pub made-watched : (t : Tables) (ls : List StepLine) (b : Monitor) (x : Started) (n : ℕ) (r : Watched) → b ≡ blank → x ≡ freshIn t b → x .outcome ≡ Made n → r ≡ watched t (x .monitor) ls → r ≡ compiledWatched t ls
+pub made-watched : (t : LentTables) (ls : List StepLine) (b : Monitor) (x : Started) (n : ℕ) (r : Watched) → b ≡ blank → x ≡ freshIn t b → x .outcome ≡ Made n → r ≡ watched t (x .monitor) ls → r ≡ compiledWatched t ls
 unfolding compiledWatched
 made-watched t ls b x n r d e f g =
     let e′ : x ≡ freshIn t blank = e ∙ ap (freshIn t) d in
     g ∙ ap (λ (o : Outcome). onOutcome o (watched t (x .monitor) ls)) (sym f) ∙ ap (λ (y : Started). onOutcome (y .outcome) (watched t (y .monitor) ls)) e′
 
-pub made-refused : (t : Tables) (ls : List StepLine) (b : Monitor) (x : Started) (n : ℕ) → b ≡ blank → x ≡ freshIn t b → x .outcome ≡ NotMade n → Refused n ≡ compiledWatched t ls
+pub made-refused : (t : LentTables) (ls : List StepLine) (b : Monitor) (x : Started) (n : ℕ) → b ≡ blank → x ≡ freshIn t b → x .outcome ≡ NotMade n → Refused n ≡ compiledWatched t ls
 unfolding compiledWatched
 made-refused t ls b x n d e f =
     let e′ : x ≡ freshIn t blank = e ∙ ap (freshIn t) d in

@@ -6,6 +6,7 @@ use mathlib.Core.List.{List, [], _∷_}
 use Prim.Native.Nat.{ℕ}
 use lib.IntN.{ℤ, pos}
 use lib.ListN.{getD, replicate}
+use Rattle.terms.specs.Limits.{nodeCells, ruleNodes}
 use Rattle.book.specs.Book.{StepLine}
 use Rattle.reader.specs.Steps.{stepsFrom}
 use Rattle.result.specs.Result.{Result, given, refused}
@@ -14,7 +15,7 @@ use Rattle.stepping.specs.declared.call.Verdict.{Verdict}
 use Rattle.stepping.specs.declared.call.Verdict.the-variants.{Accepted, Refused as NotStepped}
 use Rattle.stepping.specs.declared.fresh.Outcome.{Outcome}
 use Rattle.stepping.specs.declared.fresh.Outcome.the-variants.{Made, Refused as NotMade}
-use Rattle.lent.specs.Lent.{Tables}
+use Rattle.lent.specs.Lent.{LentTables}
 use Rattle.in_place.specs.declared.Monitor.{Monitor}
 use Rattle.in_place.specs.declared.step.Advanced.{Advanced}
 use Rattle.in_place.specs.declared.fresh.Started.{Started}
@@ -35,7 +36,7 @@ onVerdict (NotStepped n) s c rest = Refused n
 abbrev pub onStep : Advanced → ℕ → Watched → Watched
 onStep a s rest = onVerdict (a .verdict) s (rootCulprit (a .monitor)) rest
 
-unfoldable pub watched : Tables → Monitor → List StepLine → Watched
+unfoldable pub watched : LentTables → Monitor → List StepLine → Watched
 watched t m [] = Quiet
 watched t m (l ∷ ls) = onStep (stepIn t m (l .number) (l .truths)) (l .number) (watched t (stepIn t m (l .number) (l .truths) .monitor) ls)
 
@@ -49,12 +50,12 @@ isEnd (Refused n) = true
 abbrev pub blank : Monitor
 blank = record {
   size = 0;
-  forms = replicate 256 0;
-  bounds = replicate 256 0;
-  held = replicate 256 false;
-  remaining = replicate 256 0;
-  failed = replicate 256 false;
-  culprits = replicate 256 (pos 0);
+  forms = replicate ruleNodes 0;
+  bounds = replicate ruleNodes 0;
+  held = replicate ruleNodes false;
+  remaining = replicate ruleNodes 0;
+  failed = replicate ruleNodes false;
+  culprits = replicate ruleNodes (pos 0);
 }
 
 abbrev pub onOutcome : Outcome → Watched → Watched
@@ -62,7 +63,7 @@ onOutcome (Made n) w = w
 onOutcome (NotMade n) w = Refused n
 
 -- the compiled rule that the tables hold
-unfoldable pub compiledWatched : Tables → List StepLine → Watched
+unfoldable pub compiledWatched : LentTables → List StepLine → Watched
 compiledWatched t ls = onOutcome (freshIn t blank .outcome) (watched t (freshIn t blank .monitor) ls)
 
 abbrev pub onCompiled : Result ℕ → (ℕ → Watched) → Watched
@@ -71,5 +72,5 @@ onCompiled (refused n) w = Refused n
 
 unfoldable pub ruleWatched : List ℕ → ℕ → List ℕ → List ℕ → ℕ → ℕ → Watched
 ruleWatched text from ops nums first count =
-    let c : Call = compileCall ops nums first count (replicate 1792 0) in
+    let c : Call = compileCall ops nums first count (replicate nodeCells 0) in
     onCompiled (c .answer) (λ n. compiledWatched (overLists ops nums first count (c .out) 0 n) (stepsFrom text from))

@@ -12,6 +12,10 @@ use libc::STDOUT_FILENO;
 use node_table::FormulaNode;
 use reader::read::Answer;
 use split::parts::Liveness;
+use terms::limit::BOOK_NODES;
+use terms::limit::BOOK_RULES;
+use terms::limit::OWED_ROOM;
+use terms::limit::SKELETON_ROOM;
 
 fn put(s: &[u8]) {
     io::write_all(STDOUT_FILENO, s);
@@ -69,17 +73,17 @@ fn show_split(l: Liveness) {
 // The splits of `rules` rules, at most 64.
 fn show_splits(
     rules: usize,
-    kinds: [u8; 64],
-    firsts: [usize; 64],
-    counts: [usize; 64],
-    table: [FormulaNode; 1024],
+    kinds: [u8; BOOK_RULES],
+    firsts: [usize; BOOK_RULES],
+    counts: [usize; BOOK_RULES],
+    table: [FormulaNode; BOOK_NODES],
 ) {
     for r in 0..64 {
         if rules <= r {
             return;
         }
-        let mut skeleton = [0u64; 512];
-        let mut owed = [0u64; 768];
+        let mut skeleton = [0u64; SKELETON_ROOM];
+        let mut owed = [0u64; OWED_ROOM];
         let assumption = kinds[r] != 0;
         let l = split_over(
             table,
@@ -95,11 +99,11 @@ fn show_splits(
 
 fn watch_book(text: &[u8]) {
     let mut labels = [0u8; 2048];
-    let mut lens = [0usize; 64];
-    let mut kinds = [0u8; 64];
-    let mut firsts = [0usize; 64];
-    let mut counts = [0usize; 64];
-    let blank = [FormulaNode { op: 0, num: 0 }; 1024];
+    let mut lens = [0usize; BOOK_RULES];
+    let mut kinds = [0u8; BOOK_RULES];
+    let mut firsts = [0usize; BOOK_RULES];
+    let mut counts = [0usize; BOOK_RULES];
+    let blank = [FormulaNode { op: 0, num: 0 }; BOOK_NODES];
     let read = read_over(
         text,
         &mut labels,

@@ -10,6 +10,9 @@ use reader::steps::StepRead;
 use reader::steps::next_step;
 use stepping::call::Verdict;
 use stepping::fresh::Outcome;
+use terms::limit::BOOK_NODES;
+use terms::limit::NODE_CELLS;
+use terms::limit::RULE_NODES;
 ghost use mathlib.Core.Bool.{cond};
 ghost use mathlib.Core.Path.{_≡_};
 ghost use Rattle.node_table.specs.Node.{opsOf, numsOf};
@@ -75,7 +78,7 @@ fn watch_steps(
     m: Monitor,
     text: &[u8],
     from: usize,
-    table: [FormulaNode; 1024],
+    table: [FormulaNode; BOOK_NODES],
     first: usize,
     count: usize,
     nodes: &[u64],
@@ -104,12 +107,12 @@ fn watch_steps(
 fn blank_monitor() -> Monitor
     ensures { λ r. ⌜ r ≡ blank ⌝ }
 {
-    let forms = [0u64; 256];
-    let bounds = [0u64; 256];
-    let held = [false; 256];
-    let remaining = [0u64; 256];
-    let failed = [false; 256];
-    let culprits = [0i64; 256];
+    let forms = [0u64; RULE_NODES];
+    let bounds = [0u64; RULE_NODES];
+    let held = [false; RULE_NODES];
+    let remaining = [0u64; RULE_NODES];
+    let failed = [false; RULE_NODES];
+    let culprits = [0i64; RULE_NODES];
     Monitor {
         size: 0,
         forms,
@@ -125,7 +128,7 @@ fn blank_monitor() -> Monitor
 fn watch_compiled(
     text: &[u8],
     from: usize,
-    table: [FormulaNode; 1024],
+    table: [FormulaNode; BOOK_NODES],
     first: usize,
     count: usize,
     nodes: &[u64],
@@ -150,13 +153,13 @@ fn watch_compiled(
 pub fn watch_rule(
     text: &[u8],
     from: usize,
-    table: [FormulaNode; 1024],
+    table: [FormulaNode; BOOK_NODES],
     first: usize,
     count: usize,
 ) -> Watched
     ensures { λ r. ⌜ r ≡ ruleWatched (now (text .entry)) from (opsOf table) (numsOf table) first count ⌝ }
 {
-    let mut nodes = [0u64; 1792];
+    let mut nodes = [0u64; NODE_CELLS];
     let answer = compile_over(table, first, count, &mut nodes);
     match answer {
         Compiled::Nodes(n) => {

@@ -48,7 +48,7 @@ use denote.Triple.Table.{entered, cited}
 use denote.Triple.Walked.{says, Stays, stay-none, stay-none-slice, walkOf, goes-none, goes-none-slice, Walks, ends-at, walked, walk-meets}
 use denote.Exit.{yes}
 use denote.Triple.Clauses.{ensured, lasts}
-use Rattle.lent.specs.Lent.{Tables}
+use Rattle.lent.specs.Lent.{LentTables}
 use Rattle.stepping.specs.declared.call.Verdict.{Verdict}
 use Rattle.in_place.specs.declared.Monitor.{Monitor}
 use Rattle.in_place.specs.declared.step.Advanced.{Advanced}
@@ -96,7 +96,7 @@ module _ {M : Type 1} (𝓤 : URA M) (H : Heap 𝓤) (A : Atoms 𝓤) (W : Given
   abbrev copies : Copies 𝓤 H A Rs
   copies = (uint-copy 𝓤 H A W w64, (uint-copy 𝓤 H A W w64, (shr-slice-copy 𝓤 H A W (named 0) κ u64, (uint-copy 𝓤 H A W w64, (uint-copy 𝓤 H A W w64, (uint-copy 𝓤 H A W w64, (uint-copy 𝓤 H A W w64, tt)))))))
 
-  abbrev tables : Tables
+  abbrev tables : LentTables
   tables = over table first count (now nodes) nfirst ncount
 
   -- the answer

@@ -49,7 +49,7 @@ use denote.Triple.Spec.{Meets, tripleOf}
 use denote.Triple.Table.{entered, cited}
 use denote.Triple.Walked.{says, Stays, stay-none-slice, stay-none, walkOf, Walks, ends-at, walked, goes-none-slice, goes-none, walk-meets}
 use Rattle.node_table.specs.Node.{nodeOf, opsOf, numsOf}
-use Rattle.node_table.specs.Columns.{within, endOf, Holds, Unpacked}
+use Rattle.node_table.specs.Columns.{within, endOf, HoldsColumn, Unpacked}
 use Rattle.node_table.specs.declared.FormulaNode.{FormulaNode}
 use Rattle.node_table.specs.declared.Columns.{Columns}
 use Rattle.node_table.proofs.Arrays.{A8, A64, val8, val64, apart, together}
@@ -93,8 +93,8 @@ record State (ys : List FormulaNode) (first : ℕ) : Type 0 where
   from-first : first ≤ i
   ops-room : length os ≡ 1024
   nums-room : length ns ≡ 1024
-  ops-are : Holds os (opsOf ys) first i
-  nums-are : Holds ns (numsOf ys) first i
+  ops-are : HoldsColumn os (opsOf ys) first i
+  nums-are : HoldsColumn ns (numsOf ys) first i
 
 abbrev next : (ys : List FormulaNode) (first : ℕ) (σ : State ys first) → σ .i < 1024 → State ys first
 next ys first σ less = record {

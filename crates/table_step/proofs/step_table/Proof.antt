@@ -45,7 +45,7 @@ use denote.Triple.Table.{entered, cited}
 use denote.Triple.Walked.{says, Stays, gave-ref, stay-none, stay-none-slice, walkOf, goes-gave-ref, goes-none, goes-none-slice, Walks, ends-at, walked, walk-meets}
 use denote.Exit.{yes}
 use denote.Triple.Clauses.{ensured, lasts}
-use Rattle.lent.specs.Lent.{Tables}
+use Rattle.lent.specs.Lent.{LentTables}
 use Rattle.in_place.specs.declared.Monitor.{Monitor}
 use Rattle.in_place.specs.declared.step.Advanced.{Advanced}
 use Rattle.in_place.specs.InPlace.{stepIn}
@@ -149,7 +149,7 @@ module _ {M : Type 1} (𝓤 : URA M) (H : Heap 𝓤) (A : Atoms 𝓤) (W : Given
     abbrev nums : RefT (List ℕ)
     nums = record { ptr = (y, 0); name = ε; now = take n ns }
 
-    abbrev fronts : Tables
+    abbrev fronts : LentTables
     fronts = record { ops = take n os; nums = take n ns; first = first; count = count; nodes = now nodes; nfirst = nfirst; ncount = ncount }
 
     abbrev out : Advanced

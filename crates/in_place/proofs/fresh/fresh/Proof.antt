@@ -45,7 +45,7 @@ use denote.Triple.Table.{entered, cited}
 use denote.Triple.Walked.{says, Stays, stay-ref, stay-none, stay-none-slice, walkOf, goes-ref, goes-none, goes-none-slice, Walks, ends-at, walked, walk-meets}
 use denote.Exit.{yes}
 use denote.Triple.Clauses.{ensured, lasts}
-use Rattle.lent.specs.Lent.{Tables}
+use Rattle.lent.specs.Lent.{LentTables}
 use Rattle.in_place.specs.declared.Monitor.{Monitor}
 use Rattle.in_place.specs.declared.fresh.Started.{Started}
 use Rattle.in_place.specs.InPlace.{freshIn}
@@ -83,7 +83,7 @@ module _ {M : Type 1} (𝓤 : URA M) (H : Heap 𝓤) (A : Atoms 𝓤) (W : Given
   abbrev rvs : Valss Rs
   rvs = (slice-vals ops, (slice-vals nums, (vint w64 first ∷ [], (vint w64 count ∷ [], (slice-vals nodes, (vint w64 nfirst ∷ [], (vint w64 ncount ∷ [], tt)))))))
 
-  abbrev tables : Tables
+  abbrev tables : LentTables
   tables = record { ops = now ops; nums = now nums; first = first; count = count; nodes = now nodes; nfirst = nfirst; ncount = ncount }
 
   -- the lent monitor, and its machine value

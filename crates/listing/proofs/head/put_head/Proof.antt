@@ -5,8 +5,8 @@ use Rattle.listing.proofs.head.put_head.Tie as tie
 use Rattle.listing.proofs.head.put_head.Reads as reads
 use Rattle.listing.proofs.head.put_head.Lts as lts
 use Rattle.listing.proofs.head.put_rules.Reads as put-rules-reads
-use Rattle.rules.proofs.compile.compile_rules.Reads as compile-rules-reads
-use Rattle.rules.proofs.place.place_rules.Reads as place-rules-reads
+use Rattle.listing_rules.proofs.compile.compile_rules.Reads as compile-rules-reads
+use Rattle.listing_rules.proofs.place.place_rules.Reads as place-rules-reads
 
 compile-rules-requires : tie.Need-compile-rules-requires
 compile-rules-requires c κs = search needs

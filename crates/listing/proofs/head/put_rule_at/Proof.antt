@@ -6,7 +6,7 @@ use Rattle.listing.proofs.head.put_rule_at.Reads as reads
 use Rattle.listing.proofs.head.put_rule_at.Lts as lts
 use Rattle.line.proofs.text.past.Reads as past-reads
 use Rattle.line.proofs.text.upto.Reads as upto-reads
-use Rattle.rule_lines.proofs.section.put_section.Reads as put-section-reads
+use Rattle.listing_section.proofs.section.put_section.Reads as put-section-reads
 
 mul-past : tie.Need-mul-past
 mul-past c = search needs

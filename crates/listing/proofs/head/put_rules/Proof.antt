@@ -10,7 +10,7 @@ use Rattle.listing.proofs.head.put_rules.Tie as tie
 use Rattle.listing.proofs.head.put_rules.Reads as reads
 use Rattle.listing.proofs.head.put_rules.Lts as lts
 use Rattle.listing.proofs.head.put_rule_at.Reads as put-rule-at-reads
-use Rattle.rules.proofs.fields.compiling_at.Reads as compiling-at-reads
+use Rattle.listing_rules.proofs.fields.compiling_at.Reads as compiling-at-reads
 
 abbrev Inv-loop : tie.InvT-loop
 Inv-loop out₀ at ops nums labels lens kinds firsts counts nodes nfirsts ncounts refusals starts bits n place₀ r₀ out place r =

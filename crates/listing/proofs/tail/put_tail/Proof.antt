@@ -5,8 +5,8 @@ use Rattle.listing.proofs.tail.put_tail.Statement.{statement}
 use Rattle.listing.proofs.tail.put_tail.Tie as tie
 use Rattle.listing.proofs.tail.put_tail.Reads as reads
 use Rattle.listing.proofs.tail.put_tail.Lts as lts
-use Rattle.report_lines.proofs.put_end.Reads as put-end-reads
-use Rattle.stepped_lines.proofs.report_steps.Reads as report-steps-reads
+use Rattle.listing_report.proofs.put_end.Reads as put-end-reads
+use Rattle.listing_steps.proofs.report_steps.Reads as report-steps-reads
 
 report-steps-requires : tie.Need-report-steps-requires
 report-steps-requires c κs = search (needs, steps-due)

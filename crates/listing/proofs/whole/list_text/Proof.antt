@@ -6,7 +6,7 @@ use Rattle.listing.proofs.whole.list_text.Reads as reads
 use Rattle.listing.proofs.whole.list_text.Lts as lts
 use Rattle.listing.proofs.whole.list_accepted.Reads as list-accepted-reads
 use Rattle.reader.proofs.read.read_book.Reads as read-book-reads
-use Rattle.report_lines.proofs.put_refused.Reads as put-refused-reads
+use Rattle.listing_report.proofs.put_refused.Reads as put-refused-reads
 
 slice-aggregate-read-book : tie.Need-slice-aggregate-read-book
 slice-aggregate-read-book c = search needs

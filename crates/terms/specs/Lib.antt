@@ -1,0 +1,7 @@
+-- What all layers share: the conditional, document 01's limits, the numbers of words, forms, kinds and entries.
+pub mod Choice
+pub mod Limits
+pub mod Ops
+pub mod Forms
+pub mod Kinds
+pub mod Entries

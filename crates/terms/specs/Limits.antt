@@ -1,0 +1,51 @@
+-- Document 01's limits and sizes, one name each; terms/src/limit.rt has the code's.
+use Prim.Native.Nat.{ℕ, _^_}
+
+-- formula nodes of a book: the places of a formula table
+abbrev pub bookNodes : ℕ
+bookNodes = 1024
+
+-- nodes of a rule, of its formula and of its monitor
+abbrev pub ruleNodes : ℕ
+ruleNodes = 256
+
+-- rules of a book
+abbrev pub bookRules : ℕ
+bookRules = 64
+
+-- depth of a formula, the root at depth 1
+abbrev pub deepest : ℕ
+deepest = 64
+
+-- signals: bits of a word of truths
+abbrev pub signals : ℕ
+signals = 64
+
+-- numbers of a row of a compiled node, and of the rows that compiling a rule is lent
+abbrev pub rowCells : ℕ
+rowCells = 7
+
+abbrev pub nodeCells : ℕ
+nodeCells = 1792
+
+-- numbers that splitting a rule is lent: two an entry of the skeleton, three an obligation
+abbrev pub skeletonRoom : ℕ
+skeletonRoom = 512
+
+abbrev pub owedRoom : ℕ
+owedRoom = 768
+
+-- bytes of a book, and of the output that its listing is lent
+abbrev pub bookBytes : ℕ
+bookBytes = 65535
+
+abbrev pub listingBytes : ℕ
+listingBytes = 262144
+
+-- steps handed to a monitor, and step numbers of a book, lie below this
+abbrev pub steps : ℕ
+steps = 2 ^ 63
+
+-- numbers of a book, and words of truths
+abbrev pub wordSize : ℕ
+wordSize = 2 ^ 64
