@@ -1,5 +1,5 @@
 #!/usr/bin/env python3
-"""Writes data/: the book of each trip of document 01, one rule and its words at steps 0, 1, 2 and on; and a book of several rules.
+"""Writes data/: the book of each trip of document 01, one rule and its words at steps 0, 1, 2 and on.
 
 python3 crates/trips/make_books.py, at the repository's root. What the program has to print, stdout, is read off document 01 and not made here.
 """
@@ -33,15 +33,6 @@ TRIPS = {
     "bound_largest": (f"within {LARGEST}, var 1", []),
 }
 
-# label, kind and nodes of the rules of one book
-SEVERAL = [
-    ("a", "A", "always, implies, var 0, within 3, var 1"),
-    ("p", "P", "and, always, implies, var 0, next, var 1, always, within 4, in 2"),
-    ("q", "P", "or, eventually, var 0, var 1"),
-    ("r", "P", "always, implies, in 0, within 3, out 1"),
-    ("s", "A", "always, implies, var 0, within 1, var 1"),
-]
-
 
 def node_lines(nodes):
     return [node.replace(" ", "\t") for node in nodes.split(", ")]
@@ -55,4 +46,3 @@ def write(name, lines):
 os.makedirs(os.path.join(HERE, "data"), exist_ok=True)
 for name, (nodes, words) in TRIPS.items():
     write(name, ["rule\ttrip\tP"] + node_lines(nodes) + [f"step\t{s}\t{w:016x}" for s, w in enumerate(words)])
-write("several", [line for label, kind, nodes in SEVERAL for line in [f"rule\t{label}\t{kind}"] + node_lines(nodes)])

@@ -7,37 +7,44 @@ use native.Mathlib.Omega.{arith}
 use native.Mathlib.Numerals.{add-one}
 use lib.ListN.{length, getD, take, drop}
 use lib.ListN.{length-drop}
+use Rattle.reader.specs.Tables.{BookTables, columns}
 use Rattle.text.specs.Tape.{Tape, Wrote}
 use Rattle.text.proofs.Tapes.{as-text, nothing, then}
 use Rattle.listing_line.specs.declared.rule.Compiling.{Compiling}
 use Rattle.listing_rules.specs.Rules.{Rule, bitsOf, firstBitOf, likeOf, firstBelow, compilingOf}
 use Rattle.listing_rules.specs.Tabled.{Held, Tabled, Placed}
-use Rattle.listing_rules.specs.Made.{Fillable, FilledRules}
+use Rattle.listing_rules.specs.Made.{FilledRules}
 use Rattle.listing_rules.specs.Answers.{Placeable, Places, Tellable, ToldRule}
-use Rattle.listing_text.specs.Listing.{upto, ruleText, rulesText}
+use Rattle.listing_head.specs.Head.{upto, sectionText, ruleText, rulesText}
 use Rattle.listing_section.specs.Section as section
-use Rattle.listing.specs.Ready.{Lent, Labelled, BookReady, Readied, RuleReady, RuleListed, RulesListed}
-use Rattle.listing.specs.Whole.{Read, HoldsRules, KnownBook, Roomed, HeadListed}
+use Rattle.listing.specs.Ready.{Lent, lists, Labelled, HoldsRules, BookReady, Readied, RuleReady, RuleListed, RulesListed}
+use Rattle.listing.specs.Whole.{KnownBook, HeadListed}
 
 module _ (ops nums labels lens kinds firsts counts nodes nfirsts ncounts refusals starts bits : List ℕ) where
+  abbrev tables : BookTables
+  tables = columns labels lens kinds firsts counts ops nums
+
   abbrev lent : Lent
-  lent = record { ops = ops; nums = nums; labels = labels; lens = lens; kinds = kinds; firsts = firsts; counts = counts; nodes = nodes; nfirsts = nfirsts; ncounts = ncounts; refusals = refusals; starts = starts; bits = bits }
+  lent = lists tables nodes nfirsts ncounts refusals starts bits
 
   module _ (n r : ℕ) (c : Compiling) where
     pub label-room : (rest : List ℕ) → RuleReady lent n r c → rest ≡ drop (32 * r) labels → getD lens r 0 ≤ length rest
     label-room rest h e =
-        let k : Labelled labels lens (h .readied .rules) n = h .readied .is .labelled in
+        let k : Labelled labels lens (h .readied .rules) n = h .readied .is .holds .labelled in
         omega (arith, ap length e, length-drop (32 * r) labels, k .inside r (h .low), k .in-labels)
 
-    listable : (rest label : List ℕ) (R : ℕ → Rule) → BookReady lent R n → r < n → c ≡ compilingOf R n r → rest ≡ drop (32 * r) labels → label ≡ take (getD lens r 0) rest → section.Listable ops nums nodes label (getD kinds r 0) (getD firsts r 0) (getD counts r 0) (getD nfirsts r 0) (getD ncounts r 0) c (R r)
+    listable :
+        (rest label : List ℕ) (R : ℕ → Rule) → BookReady lent R n → r < n → c ≡ compilingOf R n r → rest ≡ drop (32 * r) labels
+        → label ≡ take (getD lens r 0) rest
+        → section.Listable ops nums nodes label (getD kinds r 0) (getD firsts r 0) (getD counts r 0) (getD nfirsts r 0) (getD ncounts r 0) c (R r)
     unfolding compilingOf
     listable rest label R k h g e p = record {
-      in-ops = omega (arith, k .held .ops-long);
-      in-nums = omega (arith, k .held .nums-long);
-      label-is = sym (p ∙ ap (take (getD lens r 0)) e ∙ k .labelled .label r h);
-      kind-is = k .held .kind r h;
-      first-is = k .held .first r h;
-      formula-is = k .held .formula r h;
+      in-ops = omega (arith, k .holds .held .ops-long);
+      in-nums = omega (arith, k .holds .held .nums-long);
+      label-is = sym (p ∙ ap (take (getD lens r 0)) e ∙ k .holds .labelled .label r h);
+      kind-is = k .holds .held .kind r h;
+      first-is = k .holds .held .first r h;
+      formula-is = k .holds .held .formula r h;
       compiled = k .tabled .compiled r h;
       first-bit = firstBitOf R n r;
       bits = bitsOf (R r);
@@ -45,13 +52,18 @@ module _ (ops nums labels lens kinds firsts counts nodes nfirsts ncounts refusal
       gave = g;
     }
 
-    pub section-ready : (rest label : List ℕ) → RuleReady lent n r c → rest ≡ drop (32 * r) labels → label ≡ take (getD lens r 0) rest → section.Readied ops nums nodes label (getD kinds r 0) (getD firsts r 0) (getD counts r 0) (getD nfirsts r 0) (getD ncounts r 0) c
+    pub section-ready :
+        (rest label : List ℕ) → RuleReady lent n r c → rest ≡ drop (32 * r) labels → label ≡ take (getD lens r 0) rest
+        → section.Readied ops nums nodes label (getD kinds r 0) (getD firsts r 0) (getD counts r 0) (getD nfirsts r 0) (getD ncounts r 0) c
     section-ready rest label h e p = record { rule = h .readied .rules r; is = listable rest label (h .readied .rules) (h .readied .is) (h .low) (h .gave) e p }
 
-    pub section-listed : (rest label : List ℕ) (a b : Tape) → RuleReady lent n r c → rest ≡ drop (32 * r) labels → label ≡ take (getD lens r 0) rest → section.RulePut ops nums nodes label r (getD kinds r 0) (getD firsts r 0) (getD counts r 0) (getD nfirsts r 0) (getD ncounts r 0) c a b → RuleListed lent n r c a b
+    pub section-listed :
+        (rest label : List ℕ) (a b : Tape) → RuleReady lent n r c → rest ≡ drop (32 * r) labels → label ≡ take (getD lens r 0) rest
+        → section.RulePut ops nums nodes label r (getD kinds r 0) (getD firsts r 0) (getD counts r 0) (getD nfirsts r 0) (getD ncounts r 0) c a b
+        → RuleListed lent n r c a b
     unfolding ruleText
     section-listed rest label a b h e p w = record {
-      is = λ R k g. subst (λ (x : Compiling). Wrote a (Rattle.listing_line.specs.Rule.ruleLine r (R r .label) (R r .kind) x ++ (Rattle.listing_text.specs.Listing.nodesText (R r) ++ (Rattle.listing_text.specs.Listing.liveText (R r) ++ Rattle.listing_text.specs.Listing.owesText (R r)))) b) g (w .is (R r) (listable rest label R k (h .low) g e p));
+      is = λ R k g. subst (λ (x : Compiling). Wrote a (sectionText r (R r) x) b) g (w .is (R r) (listable rest label R k (h .low) g e p));
     }
 
   -- ---- the loop: the lines of r rules are written
@@ -70,7 +82,9 @@ module _ (ops nums labels lens kinds firsts counts nodes nfirsts ncounts refusal
     pub rule-asked : (r : ℕ) (c : Compiling) → Readied lent n → r < n → ToldRule ops nums firsts counts nodes nfirsts ncounts refusals starts bits r c → RuleReady lent n r c
     rule-asked r c k h t = record { readied = k; low = h; gave = t .is (k .rules) n (k .is .tabled) (k .is .placed) h }
 
-    pub headed-next : (r : ℕ) (c : Compiling) (a b d : Tape) → Headed n r a b → r < n → ToldRule ops nums firsts counts nodes nfirsts ncounts refusals starts bits r c → RuleListed lent n r c b d → Headed n (r + 1) a d
+    pub headed-next :
+        (r : ℕ) (c : Compiling) (a b d : Tape) → Headed n r a b → r < n
+        → ToldRule ops nums firsts counts nodes nfirsts ncounts refusals starts bits r c → RuleListed lent n r c b d → Headed n (r + 1) a d
     unfolding upto
     headed-next r c a b d s h t w = record {
       high = omega arith;
@@ -84,23 +98,25 @@ module _ (ops nums labels lens kinds firsts counts nodes nfirsts ncounts refusal
     }
 
   -- ---- the rules are compiled and placed
-  abbrev tables : Read
-  tables = record { ops = ops; nums = nums; labels = labels; lens = lens; kinds = kinds; firsts = firsts; counts = counts }
-
   module _ (n : ℕ) where
-    pub fillable : KnownBook tables n → Roomed nodes nfirsts ncounts refusals → Fillable ops nums kinds firsts counts nodes nfirsts ncounts refusals n
-    fillable k m = record { rules = k .rules; held = k .is .held; in-nodes = m .in-nodes; in-nfirsts = m .in-nfirsts; in-ncounts = m .in-ncounts; in-refusals = m .in-refusals }
-
-    pub placeable : KnownBook tables n → FilledRules ops nums kinds firsts counts nodes nfirsts ncounts refusals n → 64 ≤ length starts → 64 ≤ length bits → Placeable kinds nodes nfirsts ncounts refusals n starts bits
+    pub placeable :
+        KnownBook tables n → FilledRules ops nums kinds firsts counts nodes nfirsts ncounts refusals n → 64 ≤ length starts → 64 ≤ length bits
+        → Placeable kinds nodes nfirsts ncounts refusals n starts bits
     placeable k f s b = record { ops = ops; nums = nums; firsts = firsts; counts = counts; rules = k .rules; held = k .is .held; tabled = f .is (k .rules) (k .is .held); in-starts = s; in-bits = b }
 
-    ready : (R : ℕ → Rule) → HoldsRules tables R n → FilledRules ops nums kinds firsts counts nodes nfirsts ncounts refusals n → Places kinds nodes nfirsts ncounts refusals n starts bits → BookReady lent R n
+    ready :
+        (R : ℕ → Rule) → HoldsRules tables R n → FilledRules ops nums kinds firsts counts nodes nfirsts ncounts refusals n
+        → Places kinds nodes nfirsts ncounts refusals n starts bits → BookReady lent R n
     ready R k f p =
         let t : Tabled ops nums firsts counts nodes nfirsts ncounts refusals R n = f .is R (k .held) in
-        record { labelled = k .labelled; held = k .held; tabled = t; placed = p .is ops nums firsts counts R (k .held) t }
+        record { holds = k; tabled = t; placed = p .is ops nums firsts counts R (k .held) t }
 
-    pub readied : KnownBook tables n → FilledRules ops nums kinds firsts counts nodes nfirsts ncounts refusals n → Places kinds nodes nfirsts ncounts refusals n starts bits → Readied lent n
+    pub readied :
+        KnownBook tables n → FilledRules ops nums kinds firsts counts nodes nfirsts ncounts refusals n
+        → Places kinds nodes nfirsts ncounts refusals n starts bits → Readied lent n
     readied k f p = record { rules = k .rules; is = ready (k .rules) (k .is) f p }
 
-    pub head-listed : (a b : Tape) → FilledRules ops nums kinds firsts counts nodes nfirsts ncounts refusals n → Places kinds nodes nfirsts ncounts refusals n starts bits → RulesListed lent n a b → HeadListed tables n nodes nfirsts ncounts refusals a b
+    pub head-listed :
+        (a b : Tape) → FilledRules ops nums kinds firsts counts nodes nfirsts ncounts refusals n
+        → Places kinds nodes nfirsts ncounts refusals n starts bits → RulesListed lent n a b → HeadListed tables n nodes nfirsts ncounts refusals a b
     head-listed a b f p w = record { text = λ R k. w .is R (ready R k f p); tabled = λ R k. f .is R (k .held) }

@@ -8,7 +8,7 @@ use borrow.Author.Tests.{le-leb, lt-leb}
 use lib.Dec.{leb}
 use lib.ListN.{length, getD, take, drop, length-append, length-drop, take-append-drop}
 use Rattle.book.specs.Book.{Book}
-use Rattle.reader.specs.Tables.{BookTables}
+use Rattle.reader.specs.Tables.{BookTables, columns}
 use Rattle.reader.specs.Answer.{Reads, Roomy}
 use Rattle.reader.specs.declared.read.Answer.{Answer}
 use Rattle.reader.specs.declared.read.Answer.the-variants.{Read as Taken, Refused as NotTaken}
@@ -16,7 +16,8 @@ use Rattle.text.specs.Tape.{Tape, tape, Wrote}
 use Rattle.text.proofs.Tapes.{as-text, then, wrote-first}
 use Rattle.listing_rules.specs.Rules.{Rule}
 use Rattle.listing_rules.specs.Tabled.{Held, Tabled, Placed}
-use Rattle.listing_text.specs.Listing.{listing, listingOf, ruleAt, rulesText, rulesListing, refusedLine, reportLines, endLine}
+use Rattle.listing_reports.specs.Tail.{refusedLine, endLine}
+use Rattle.listing_text.specs.Listing.{listing, ruleAt, rulesListing}
 use Rattle.listing_size.specs.Room.{listingRoom}
 use Rattle.listing_size.proofs.ListingFits.{listing-fits}
 use Rattle.reader.proofs.Runs.{accepted-short}
@@ -28,7 +29,8 @@ use Rattle.listing_steps.proofs.Tables.{tabled-rows}
 use Rattle.result.specs.Result.{given}
 use Rattle.listing.specs.declared.whole.Listed.{Listed}
 use Rattle.listing.specs.declared.whole.Listed.the-variants.{Text, Refused}
-use Rattle.listing.specs.Whole.{Read, HoldsRules, KnownBook, HeadListed, Compiled, TailListed, reportsFrom, tailText}
+use Rattle.listing.specs.Whole.{KnownBook, HeadListed, Compiled, TailListed}
+use Rattle.listing.specs.Ready.{HoldsRules}
 use Rattle.listing.specs.Lists.{Call, orShort, listCall, Answers, Within}
 
 -- ---- the entry point
@@ -56,12 +58,13 @@ module _ (text out out′ : List ℕ) (n : ℕ) (w : Wrote (tape out 0) (listing
 -- ---- reading
 module _ (text labels lens kinds firsts counts ops nums labels′ lens′ kinds′ firsts′ counts′ ops′ nums′ : List ℕ) where
   abbrev before : BookTables
-  before = record { labels = labels; lens = lens; kinds = kinds; firsts = firsts; counts = counts; ops = ops; nums = nums }
+  before = columns labels lens kinds firsts counts ops nums
 
   abbrev after : BookTables
-  after = record { labels = labels′; lens = lens′; kinds = kinds′; firsts = firsts′; counts = counts′; ops = ops′; nums = nums′ }
+  after = columns labels′ lens′ kinds′ firsts′ counts′ ops′ nums′
 
-  module _ (a : 2048 ≡ length labels) (b : 64 ≡ length lens) (c : 64 ≡ length kinds) (d : 64 ≡ length firsts) (e : 64 ≡ length counts) (f : 1024 ≡ length ops) (g : 1024 ≡ length nums) where
+  module _ (a : 2048 ≡ length labels) (b : 64 ≡ length lens) (c : 64 ≡ length kinds) (d : 64 ≡ length firsts) (e : 64 ≡ length counts)
+      (f : 1024 ≡ length ops) (g : 1024 ≡ length nums) where
     room : Roomy before
     room = record { labels = omega arith; lens = omega arith; kinds = omega arith; firsts = omega arith; counts = omega arith; ops = omega arith; nums = omega arith }
 
@@ -74,9 +77,9 @@ module _ (text labels lens kinds firsts counts ops nums labels′ lens′ kinds�
         as-text x y (refused-listing text before after n k room (subst (λ (z : Answer). Reads text before z after) p u)) w
 
 -- ---- an accepted book
-module _ (text labels lens kinds firsts counts ops nums : List ℕ) (n from : ℕ) (h : Handed text (record { labels = labels; lens = lens; kinds = kinds; firsts = firsts; counts = counts; ops = ops; nums = nums }) n from) where
-  abbrev tables : Read
-  tables = record { ops = ops; nums = nums; labels = labels; lens = lens; kinds = kinds; firsts = firsts; counts = counts }
+module _ (text labels lens kinds firsts counts ops nums : List ℕ) (n from : ℕ) (h : Handed text (columns labels lens kinds firsts counts ops nums) n from) where
+  abbrev tables : BookTables
+  tables = columns labels lens kinds firsts counts ops nums
 
   holds : HoldsRules tables (ruleAt (h .book)) n
   holds = record { labelled = record { in-labels = h .in-labels; in-lens = h .in-lens; inside = h .in-label; label = h .label }; held = h .held }
@@ -98,7 +101,9 @@ module _ (text ops nums firsts counts nodes nfirsts ncounts refusals : List ℕ)
   pub steps-due : StepsDue text ops nums nodes nfirsts refusals n
   steps-due = record { rules = h .rules; rows = tabled-rows ops nums firsts counts nodes nfirsts ncounts refusals (h .rules) n (h .is); short = h .short }
 
-  pub tail-listed : (from count : ℕ) (x y z : Tape) → StepsReported text from ops nums nodes nfirsts refusals n x y count → Wrote y (endLine count) z → TailListed text from ops nums firsts counts nodes nfirsts ncounts refusals n x z
+  pub tail-listed :
+      (from count : ℕ) (x y z : Tape) → StepsReported text from ops nums nodes nfirsts refusals n x y count → Wrote y (endLine count) z
+      → TailListed text from ops nums firsts counts nodes nfirsts ncounts refusals n x z
   tail-listed from count x y z s w = record {
     is = λ R t.
         let rows : Rows ops nums nodes nfirsts refusals R n = tabled-rows ops nums firsts counts nodes nfirsts ncounts refusals R n t in

@@ -4,21 +4,16 @@ use mathlib.Core.Path.{_≡_}
 use Prim.Native.Nat.{ℕ, _+_, _*_, _≤_, _<_}
 use lib.ListN.{length, getD, take, drop}
 use Rattle.terms.specs.Limits.{bookRules}
+use Rattle.reader.specs.Tables.{BookTables}
 use Rattle.text.specs.Tape.{Tape, Wrote}
 use Rattle.listing_line.specs.declared.rule.Compiling.{Compiling}
 use Rattle.listing_rules.specs.Rules.{Rule, compilingOf}
 use Rattle.listing_rules.specs.Tabled.{Held, Tabled, Placed}
-use Rattle.listing_text.specs.Listing.{upto, ruleText, rulesText}
+use Rattle.listing_head.specs.Head.{ruleText, rulesText}
 
--- the lists that are lent
+-- what is lent: the rule list and the formula table, and the compiled rules with their first bits and bits
 pub record Lent : Type 0 where
-  pub ops : List ℕ
-  pub nums : List ℕ
-  pub labels : List ℕ
-  pub lens : List ℕ
-  pub kinds : List ℕ
-  pub firsts : List ℕ
-  pub counts : List ℕ
+  pub book : BookTables
   pub nodes : List ℕ
   pub nfirsts : List ℕ
   pub ncounts : List ℕ
@@ -26,16 +21,9 @@ pub record Lent : Type 0 where
   pub starts : List ℕ
   pub bits : List ℕ
 
-abbrev pub lists :
-    List ℕ → List ℕ → List ℕ → List ℕ → List ℕ → List ℕ → List ℕ → List ℕ → List ℕ → List ℕ → List ℕ → List ℕ → List ℕ → Lent
-lists ops nums labels lens kinds firsts counts nodes nfirsts ncounts refusals starts bits = record {
-  ops = ops;
-  nums = nums;
-  labels = labels;
-  lens = lens;
-  kinds = kinds;
-  firsts = firsts;
-  counts = counts;
+abbrev pub lists : BookTables → List ℕ → List ℕ → List ℕ → List ℕ → List ℕ → List ℕ → Lent
+lists book nodes nfirsts ncounts refusals starts bits = record {
+  book = book;
   nodes = nodes;
   nfirsts = nfirsts;
   ncounts = ncounts;
@@ -51,11 +39,16 @@ pub record Labelled (labels lens : List ℕ) (R : ℕ → Rule) (n : ℕ) : Type
   pub inside : (r : ℕ) → r < n → 32 * r + getD lens r 0 ≤ 2048
   pub label : (r : ℕ) → r < n → take (getD lens r 0) (drop (32 * r) labels) ≡ R r .label
 
--- the first n rules of R: read, compiled and placed
+-- the tables hold the first n rules of R
+pub record HoldsRules (t : BookTables) (R : ℕ → Rule) (n : ℕ) : Type 0 where
+  pub labelled : Labelled (t .labels) (t .lens) R n
+  pub held : Held (t .ops) (t .nums) (t .kinds) (t .firsts) (t .counts) R n
+
+-- they are compiled and placed too
 pub record BookReady (l : Lent) (R : ℕ → Rule) (n : ℕ) : Type 0 where
-  pub labelled : Labelled (l .labels) (l .lens) R n
-  pub held : Held (l .ops) (l .nums) (l .kinds) (l .firsts) (l .counts) R n
-  pub tabled : Tabled (l .ops) (l .nums) (l .firsts) (l .counts) (l .nodes) (l .nfirsts) (l .ncounts) (l .refusals) R n
+  pub holds : HoldsRules (l .book) R n
+  pub tabled :
+      Tabled (l .book .ops) (l .book .nums) (l .book .firsts) (l .book .counts) (l .nodes) (l .nfirsts) (l .ncounts) (l .refusals) R n
   pub placed : Placed R n (l .starts) (l .bits)
 
 pub record Readied (l : Lent) (n : ℕ) : Type 0 where

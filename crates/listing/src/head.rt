@@ -7,9 +7,10 @@ use listing_rules::fields::compiling_at;
 use listing_rules::place::place_rules;
 use listing_section::section::put_section;
 use terms::limit::BOOK_RULES;
+ghost use Rattle.reader.specs.Tables.{columns};
 ghost use Rattle.text.specs.Tape.{tape};
 ghost use Rattle.listing.specs.Ready.{lists, Readied, RuleReady, RuleListed, RulesListed};
-ghost use Rattle.listing.specs.Whole.{readIn, KnownBook, Roomed, HeadListed};
+ghost use Rattle.listing.specs.Whole.{KnownBook, Roomed, HeadListed};
 
 // The lines of rule r, with what compiling gave.
 pub(crate) fn put_rule_at(
@@ -32,11 +33,11 @@ pub(crate) fn put_rule_at(
     r: usize,
     c: Compiling,
 ) -> usize
-    requires { ⌜ RuleReady (lists (now ops) (now nums) (now labels) (now lens) (now kinds) (now firsts) (now counts) (now nodes) (now nfirsts)
-        (now ncounts) (now refusals) (now starts) (now bits)) n r c ⌝ }
-    ensures { λ e. ⌜ RuleListed (lists (now (ops .entry)) (now (nums .entry)) (now (labels .entry)) (now (lens .entry)) (now (kinds .entry))
-        (now (firsts .entry)) (now (counts .entry)) (now (nodes .entry)) (now (nfirsts .entry)) (now (ncounts .entry)) (now (refusals .entry))
-        (now (starts .entry)) (now (bits .entry))) n r c (tape (now (out .entry)) at) (tape (now (out .exit)) e) ⌝ }
+    requires { ⌜ RuleReady (lists (columns (now labels) (now lens) (now kinds) (now firsts) (now counts) (now ops) (now nums))
+        (now nodes) (now nfirsts) (now ncounts) (now refusals) (now starts) (now bits)) n r c ⌝ }
+    ensures { λ e. ⌜ RuleListed (lists (columns (now (labels .entry)) (now (lens .entry)) (now (kinds .entry)) (now (firsts .entry))
+        (now (counts .entry)) (now (ops .entry)) (now (nums .entry))) (now (nodes .entry)) (now (nfirsts .entry)) (now (ncounts .entry))
+        (now (refusals .entry)) (now (starts .entry)) (now (bits .entry))) n r c (tape (now (out .entry)) at) (tape (now (out .exit)) e) ⌝ }
 {
     let rest = past(labels, 32 * r);
     let label = upto(rest, lens[r]);
@@ -76,11 +77,11 @@ pub(crate) fn put_rules(
     bits: &[u64],
     n: usize,
 ) -> usize
-    requires { ⌜ Readied (lists (now ops) (now nums) (now labels) (now lens) (now kinds) (now firsts) (now counts) (now nodes) (now nfirsts)
-        (now ncounts) (now refusals) (now starts) (now bits)) n ⌝ }
-    ensures { λ e. ⌜ RulesListed (lists (now (ops .entry)) (now (nums .entry)) (now (labels .entry)) (now (lens .entry)) (now (kinds .entry))
-        (now (firsts .entry)) (now (counts .entry)) (now (nodes .entry)) (now (nfirsts .entry)) (now (ncounts .entry)) (now (refusals .entry))
-        (now (starts .entry)) (now (bits .entry))) n (tape (now (out .entry)) at) (tape (now (out .exit)) e) ⌝ }
+    requires { ⌜ Readied (lists (columns (now labels) (now lens) (now kinds) (now firsts) (now counts) (now ops) (now nums))
+        (now nodes) (now nfirsts) (now ncounts) (now refusals) (now starts) (now bits)) n ⌝ }
+    ensures { λ e. ⌜ RulesListed (lists (columns (now (labels .entry)) (now (lens .entry)) (now (kinds .entry)) (now (firsts .entry))
+        (now (counts .entry)) (now (ops .entry)) (now (nums .entry))) (now (nodes .entry)) (now (nfirsts .entry)) (now (ncounts .entry))
+        (now (refusals .entry)) (now (starts .entry)) (now (bits .entry))) n (tape (now (out .entry)) at) (tape (now (out .exit)) e) ⌝ }
 {
     let mut place = at;
     let mut r: usize = 0;
@@ -139,10 +140,10 @@ pub(crate) fn put_head(
     ncounts: &mut [usize],
     refusals: &mut [u64],
 ) -> usize
-    requires { ⌜ (KnownBook (readIn (now ops) (now nums) (now labels) (now lens) (now kinds) (now firsts) (now counts)) n)
+    requires { ⌜ (KnownBook (columns (now labels) (now lens) (now kinds) (now firsts) (now counts) (now ops) (now nums)) n)
         × (Roomed (now nodes) (now nfirsts) (now ncounts) (now refusals)) ⌝ }
-    ensures { λ e. ⌜ HeadListed (readIn (now (ops .entry)) (now (nums .entry)) (now (labels .entry)) (now (lens .entry)) (now (kinds .entry))
-        (now (firsts .entry)) (now (counts .entry))) n (now (nodes .exit)) (now (nfirsts .exit)) (now (ncounts .exit)) (now (refusals .exit))
+    ensures { λ e. ⌜ HeadListed (columns (now (labels .entry)) (now (lens .entry)) (now (kinds .entry)) (now (firsts .entry))
+        (now (counts .entry)) (now (ops .entry)) (now (nums .entry))) n (now (nodes .exit)) (now (nfirsts .exit)) (now (ncounts .exit)) (now (refusals .exit))
         (tape (now (out .entry)) 0) (tape (now (out .exit)) e) ⌝ }
 {
     let mut starts: [u64; BOOK_RULES] = [0; BOOK_RULES];

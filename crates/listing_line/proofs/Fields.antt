@@ -28,6 +28,18 @@ pub tab-done : {a : Tape} → Wrote a (tabbed []) a
 unfolding tabbed
 tab-done {a} = nothing a
 
+-- three of them; and three of which the last is a letter
+pub tab-three :
+    (a b c d : Tape) (s t u : List ℕ)
+    → Wrote a (marked s 9) b → Wrote b (marked t 9) c → Wrote c (marked u 9) d → Wrote a (tabbed (s ∷ t ∷ u ∷ [])) d
+tab-three a b c d s t u p q r = tab-more s (t ∷ u ∷ []) p (tab-more t (u ∷ []) q (tab-more u [] r tab-done))
+
+pub tab-letter :
+    (a b c d e : Tape) (s t : List ℕ) (letter : ℕ)
+    → Wrote a (marked s 9) b → Wrote b (marked t 9) c → Wrote c (letter ∷ []) d → Wrote d (9 ∷ []) e
+    → Wrote a (tabbed (s ∷ t ∷ (letter ∷ []) ∷ [])) e
+tab-letter a b c d e s t letter p q r v = tab-three a b c e s t (letter ∷ []) p q (then r v)
+
 tabbed-line : (ts : List (List ℕ)) (u : List ℕ) (us : List (List ℕ)) → line (ts ++ u ∷ us) ≡ tabbed ts ++ line (u ∷ us)
 unfolding tabbed line
 tabbed-line [] u us = refl

@@ -27,10 +27,6 @@ use Rattle.listing_line.proofs.Fields.{more, done, tab-more, tab-done, 
 abbrev headFields : ℕ → ℕ → List (List ℕ)
 headFields id form = nodeWord ∷ decimal id ∷ (form ∷ []) ∷ []
 
-pub head-wrote : (a b c d e : Tape) (id form : ℕ) → Wrote a (marked nodeWord 9) b → Wrote b (marked (decimal id) 9) c → Wrote c (form ∷ []) d → Wrote d (9 ∷ []) e → Wrote a (tabbed (headFields id form)) e
-head-wrote a b c d e id form p q r s =
-    tab-more nodeWord (decimal id ∷ (form ∷ []) ∷ []) p (tab-more (decimal id) ((form ∷ []) ∷ []) q (tab-more (form ∷ []) [] (then r s) tab-done))
-
 pub end-step : (a b : Tape) (to : End) (t : ℕ) → to ≡ Step t → Wrote a (marked (decimal t) 9) b → Wrote a (marked (endText to) 9) b
 end-step a b to t e w = as-text a b (ap (λ (x : End). marked (endText x) 9) e) w
 
@@ -91,7 +87,9 @@ module _ (ops nums : List ℕ) (n : MonNode) where
   ready-owed-2 b s t r g e = subst (NodeReady ops nums) e g .1
 
 module _ (ops nums : List ℕ) (id : ℕ) (n : MonNode) (a b c d e f : Tape) where
-  line-range : (s : Signal) (r : AnchorRange) → Wrote a (tabbed (headFields id 67)) b → Wrote b (marked absent 9) c → Wrote c (tabbed (rangeFields r)) d → Wrote d (marked (signalText s) 9) e → Wrote e (marked absent 10) f → Wrote a (lineOf id (checkFields (range-check s r))) f
+  line-range :
+      (s : Signal) (r : AnchorRange) → Wrote a (tabbed (headFields id 67)) b → Wrote b (marked absent 9) c → Wrote c (tabbed (rangeFields r)) d
+      → Wrote d (marked (signalText s) 9) e → Wrote e (marked absent 10) f → Wrote a (lineOf id (checkFields (range-check s r))) f
   line-range s r p q w v x =
       let from : List ℕ = decimal (r .from) in
       let to : List ℕ = endText (r .to) in
@@ -99,7 +97,10 @@ module _ (ops nums : List ℕ) (id : ℕ) (n : MonNode) (a b c d e f : Tape) whe
       (more absent from (to ∷ signalText s ∷ absent ∷ []) q
       (group (rangeFields r) (signalText s) (absent ∷ []) w (more (signalText s) absent [] v (done absent x))))
 
-  line-two : (form : ℕ) (bound : List ℕ) (s t : Signal) (r : AnchorRange) → Wrote a (tabbed (headFields id form)) b → Wrote b (marked bound 9) c → Wrote c (tabbed (rangeFields r)) d → Wrote d (marked (signalText s) 9) e → Wrote e (marked (signalText t) 10) f → Wrote a (lineOf id ((form ∷ []) ∷ bound ∷ decimal (r .from) ∷ endText (r .to) ∷ signalText s ∷ signalText t ∷ [])) f
+  line-two :
+      (form : ℕ) (bound : List ℕ) (s t : Signal) (r : AnchorRange) → Wrote a (tabbed (headFields id form)) b → Wrote b (marked bound 9) c
+      → Wrote c (tabbed (rangeFields r)) d → Wrote d (marked (signalText s) 9) e → Wrote e (marked (signalText t) 10) f
+      → Wrote a (lineOf id ((form ∷ []) ∷ bound ∷ decimal (r .from) ∷ endText (r .to) ∷ signalText s ∷ signalText t ∷ [])) f
   line-two form bound s t r p q w v x =
       let from : List ℕ = decimal (r .from) in
       let to : List ℕ = endText (r .to) in
@@ -107,7 +108,9 @@ module _ (ops nums : List ℕ) (id : ℕ) (n : MonNode) (a b c d e f : Tape) whe
       (more bound from (to ∷ signalText s ∷ signalText t ∷ []) q
       (group (rangeFields r) (signalText s) (signalText t ∷ []) w (more (signalText s) (signalText t) [] v (done (signalText t) x))))
 
-  pub node-range : (x : SignalExpr) (r : AnchorRange) → n ≡ RangeCheck x r → Wrote a (tabbed (headFields id 67)) b → Wrote b (marked absent 9) c → Wrote c (tabbed (rangeFields r)) d → ExprWrote ops nums x 9 d e → Wrote e (marked absent 10) f → NodeWrote ops nums id n a f
+  pub node-range :
+      (x : SignalExpr) (r : AnchorRange) → n ≡ RangeCheck x r → Wrote a (tabbed (headFields id 67)) b → Wrote b (marked absent 9) c
+      → Wrote c (tabbed (rangeFields r)) d → ExprWrote ops nums x 9 d e → Wrote e (marked absent 10) f → NodeWrote ops nums id n a f
   node-range x r h p q w v u = record { of-check = go; of-and = λ k. other (cc); of-or = λ k. other (cc) }
     where
       go : (k : Check) → n ≡ nodeOf k → CheckStands ops nums k → Wrote a (lineOf id (checkFields k)) f
@@ -118,7 +121,9 @@ module _ (ops nums : List ℕ) (id : ℕ) (n : MonNode) (a b c d e f : Tape) whe
       go (delayed-check s t r′) k z = other (cc)
       go (obligation m s t r′) k z = other (cc)
 
-  pub node-delayed : (x y : SignalExpr) (r : AnchorRange) → n ≡ DelayedCheck x y r → Wrote a (tabbed (headFields id 68)) b → Wrote b (marked absent 9) c → Wrote c (tabbed (rangeFields r)) d → ExprWrote ops nums x 9 d e → ExprWrote ops nums y 10 e f → NodeWrote ops nums id n a f
+  pub node-delayed :
+      (x y : SignalExpr) (r : AnchorRange) → n ≡ DelayedCheck x y r → Wrote a (tabbed (headFields id 68)) b → Wrote b (marked absent 9) c
+      → Wrote c (tabbed (rangeFields r)) d → ExprWrote ops nums x 9 d e → ExprWrote ops nums y 10 e f → NodeWrote ops nums id n a f
   node-delayed x y r h p q w v u = record { of-check = go; of-and = λ k. other (cc); of-or = λ k. other (cc) }
     where
       go : (k : Check) → n ≡ nodeOf k → CheckStands ops nums k → Wrote a (lineOf id (checkFields k)) f
@@ -130,7 +135,9 @@ module _ (ops nums : List ℕ) (id : ℕ) (n : MonNode) (a b c d e f : Tape) whe
           line-two 68 absent s t r′ p q (subst (λ (o : AnchorRange). Wrote c (tabbed (rangeFields o)) d) j w) (v .is s i (z .0)) (u .is t l (z .1))
       go (obligation m s t r′) k z = other (cc)
 
-  pub node-owed : (m : ℕ) (x y : SignalExpr) (r : AnchorRange) → n ≡ Obligation m x y r → Wrote a (tabbed (headFields id 66)) b → Wrote b (marked (decimal m) 9) c → Wrote c (tabbed (rangeFields r)) d → ExprWrote ops nums x 9 d e → ExprWrote ops nums y 10 e f → NodeWrote ops nums id n a f
+  pub node-owed :
+      (m : ℕ) (x y : SignalExpr) (r : AnchorRange) → n ≡ Obligation m x y r → Wrote a (tabbed (headFields id 66)) b → Wrote b (marked (decimal m) 9) c
+      → Wrote c (tabbed (rangeFields r)) d → ExprWrote ops nums x 9 d e → ExprWrote ops nums y 10 e f → NodeWrote ops nums id n a f
   node-owed m x y r h p q w v u = record { of-check = go; of-and = λ k. other (cc); of-or = λ k. other (cc) }
     where
       go : (k : Check) → n ≡ nodeOf k → CheckStands ops nums k → Wrote a (lineOf id (checkFields k)) f

@@ -25,7 +25,10 @@ zero-text : decimal 0 ≡ 48 ∷ []
 unfolding digits
 zero-text = refl
 
-pub compiled-line : (a b c d e : Tape) (x : Compiling) (first bits : ℕ) (k : Alike) → x ≡ Compiled first bits k → Wrote a (48 ∷ 9 ∷ []) b → Wrote b (marked (decimal first) 9) c → Wrote c (marked (decimal bits) 9) d → Wrote d (marked (alikeText k) 10) e → Wrote a (line (compilingFields x)) e
+pub compiled-line :
+    (a b c d e : Tape) (x : Compiling) (first bits : ℕ) (k : Alike) → x ≡ Compiled first bits k → Wrote a (48 ∷ 9 ∷ []) b
+    → Wrote b (marked (decimal first) 9) c → Wrote c (marked (decimal bits) 9) d → Wrote d (marked (alikeText k) 10) e
+    → Wrote a (line (compilingFields x)) e
 compiled-line a b c d e x first bits k h p q r s =
     as-text a e (ap (λ (y : Compiling). line (compilingFields y)) h)
     (more (decimal 0) (decimal first) (decimal bits ∷ alikeText k ∷ []) (as-text a b (ap (λ (t : List ℕ). marked t 9) zero-text) p)
@@ -35,7 +38,9 @@ three-is : line (absent ∷ absent ∷ absent ∷ []) ≡ 45 ∷ 9 ∷ 45 ∷ 9 
 unfolding line
 three-is = refl
 
-pub refused-line : (a b c : Tape) (x : Compiling) (n : ℕ) → x ≡ Refused n → Wrote a (marked (decimal n) 9) b → Wrote b (45 ∷ 9 ∷ 45 ∷ 9 ∷ 45 ∷ 10 ∷ []) c → Wrote a (line (compilingFields x)) c
+pub refused-line :
+    (a b c : Tape) (x : Compiling) (n : ℕ) → x ≡ Refused n → Wrote a (marked (decimal n) 9) b → Wrote b (45 ∷ 9 ∷ 45 ∷ 9 ∷ 45 ∷ 10 ∷ []) c
+    → Wrote a (line (compilingFields x)) c
 refused-line a b c x n h p q =
     as-text a c (ap (λ (y : Compiling). line (compilingFields y)) h)
     (more (decimal n) absent (absent ∷ absent ∷ []) p (as-text b c three-is q))
@@ -52,11 +57,9 @@ last-four : (x : Compiling) (P : List (List ℕ) → Type 0) → ((t : List ℕ)
 last-four (Compiled first bits k) P f = f (decimal 0) (decimal first ∷ decimal bits ∷ alikeText k ∷ [])
 last-four (Refused n) P f = f (decimal n) (absent ∷ absent ∷ absent ∷ [])
 
-pub rule-head : (a b c d : Tape) (number : ℕ) (label : List ℕ) → Wrote a (marked ruleWord 9) b → Wrote b (marked (decimal number) 9) c → Wrote c (marked label 9) d → Wrote a (tabbed (ruleWord ∷ decimal number ∷ label ∷ [])) d
-rule-head a b c d number label p q r =
-    tab-more ruleWord (decimal number ∷ label ∷ []) p (tab-more (decimal number) (label ∷ []) q (tab-more label [] r tab-done))
-
-pub rule-line : (a b c d : Tape) (number kind : ℕ) (label : List ℕ) (x : Compiling) → Wrote a (tabbed (ruleWord ∷ decimal number ∷ label ∷ [])) b → Wrote b (marked (kindByte kind ∷ []) 9) c → Wrote c (line (compilingFields x)) d → Wrote a (ruleLine number label kind x) d
+pub rule-line :
+    (a b c d : Tape) (number kind : ℕ) (label : List ℕ) (x : Compiling) → Wrote a (tabbed (ruleWord ∷ decimal number ∷ label ∷ [])) b
+    → Wrote b (marked (kindByte kind ∷ []) 9) c → Wrote c (line (compilingFields x)) d → Wrote a (ruleLine number label kind x) d
 unfolding ruleLine
 rule-line a b c d number kind label x p q w =
     group (ruleWord ∷ decimal number ∷ label ∷ []) (kindByte kind ∷ []) (compilingFields x) p

@@ -34,21 +34,9 @@ module _ (ops nums : List ℕ) (kind n : ℕ) (a b : Tape) where
   unfolding entryText
   entry-owed c g h w v = rw (le-ltb kind 1 g, lt-ltb kind 2 h) (then w v)
 
-  pub entry-not : 1 ≤ kind → 2 ≤ kind → kind < 4 → Wrote a (33 ∷ []) b → Wrote a (entryText ops nums kind n) b
+  pub entry-word : 1 ≤ kind → 2 ≤ kind → Wrote a (nodeText true (node kind 0)) b → Wrote a (entryText ops nums kind n) b
   unfolding entryText
-  entry-not g h k w = rw (le-ltb kind 1 g, le-ltb kind 2 h, lt-ltb kind 4 k) w
-
-  pub entry-and : 1 ≤ kind → 2 ≤ kind → 4 ≤ kind → kind < 10 → Wrote a (38 ∷ []) b → Wrote a (entryText ops nums kind n) b
-  unfolding entryText
-  entry-and g h k l w = rw (le-ltb kind 1 g, le-ltb kind 2 h, le-ltb kind 4 k, lt-ltb kind 10 l) w
-
-  pub entry-or : 1 ≤ kind → 2 ≤ kind → 4 ≤ kind → 10 ≤ kind → kind < 11 → Wrote a (124 ∷ []) b → Wrote a (entryText ops nums kind n) b
-  unfolding entryText
-  entry-or g h k l m w = rw (le-ltb kind 1 g, le-ltb kind 2 h, le-ltb kind 4 k, le-ltb kind 10 l, lt-ltb kind 11 m) w
-
-  pub entry-implies : 1 ≤ kind → 2 ≤ kind → 4 ≤ kind → 10 ≤ kind → 11 ≤ kind → Wrote a (62 ∷ []) b → Wrote a (entryText ops nums kind n) b
-  unfolding entryText
-  entry-implies g h k l m w = rw (le-ltb kind 1 g, le-ltb kind 2 h, le-ltb kind 4 k, le-ltb kind 10 l, le-ltb kind 11 m) w
+  entry-word g h w = rw (le-ltb kind 1 g, le-ltb kind 2 h) w
 
 module _ (ops nums : List ℕ) (kind n : ℕ) (g : EntryIn ops nums kind n) (h : kind < 1) where
   pub leaf-in-ops : n < length ops
@@ -78,7 +66,9 @@ pub entered-first : (ops nums l : List ℕ) (n : ℕ) (a : Tape) → Entered ops
 unfolding entriesText
 entered-first ops nums l n a = record { high = omega arith; wrote = nothing a }
 
-pub entered-next : (ops nums l : List ℕ) (n k : ℕ) (a b c : Tape) → Entered ops nums l n k a b → k < n → Wrote b (entryText ops nums (getD l (2 * k) 0) (getD l (2 * k + 1) 0)) c → Entered ops nums l n (k + 1) a c
+pub entered-next :
+    (ops nums l : List ℕ) (n k : ℕ) (a b c : Tape) → Entered ops nums l n k a b → k < n
+    → Wrote b (entryText ops nums (getD l (2 * k) 0) (getD l (2 * k + 1) 0)) c → Entered ops nums l n (k + 1) a c
 entered-next ops nums l n k a b c e h w = record {
   high = omega arith;
   wrote = as-text a c (ap (λ (m : ℕ). entriesText ops nums m l) (add-one k) ∙ entries-snoc ops nums k l) (then (e .wrote) w);
@@ -109,7 +99,10 @@ module _ (ops nums : List ℕ) where
   abbrev whole : Skeleton → Type 0
   whole sk = (m : ℕ) (rest : List ℕ) → entriesText ops nums (entries sk + m) (skeletonCells sk ++ rest) ≡ marksText (skeletonText sk) ++ entriesText ops nums m rest
 
-  word-two : (kind b : ℕ) (s t : Skeleton) → entryText ops nums kind 0 ≡ b ∷ [] → whole s → whole t → (m : ℕ) (rest : List ℕ) → entriesText ops nums (1 + entries s + entries t + m) (kind ∷ 0 ∷ ((skeletonCells s ++ skeletonCells t) ++ rest)) ≡ b ∷ (marksText (skeletonText s ++ skeletonText t) ++ entriesText ops nums m rest)
+  word-two :
+      (kind b : ℕ) (s t : Skeleton) → entryText ops nums kind 0 ≡ b ∷ [] → whole s → whole t → (m : ℕ) (rest : List ℕ)
+      → entriesText ops nums (1 + entries s + entries t + m) (kind ∷ 0 ∷ ((skeletonCells s ++ skeletonCells t) ++ rest))
+      ≡ b ∷ (marksText (skeletonText s ++ skeletonText t) ++ entriesText ops nums m rest)
   unfolding entriesText
   word-two kind b s t e f g m rest =
       let n : 1 + entries s + entries t + m ≡ suc (entries s + (entries t + m)) = omega arith in
@@ -123,7 +116,7 @@ module _ (ops nums : List ℕ) where
       ap (λ (k : ℕ). entriesText ops nums k l) n ∙ ap₂ _++_ e tail
 
   pub entries-text : (sk : Skeleton) → SkeletonStands ops nums sk → whole sk
-  unfolding entriesText entries skeletonCells skeletonText marksText SkeletonStands entryText nodeText spelled
+  unfolding entriesText entries skeletonCells skeletonText marksText SkeletonStands entryText node nodeText spelled
   entries-text (safety i a) h m rest =
       ap (λ (k : ℕ). entriesText ops nums k (0 ∷ i ∷ rest)) (one-add m)
       ∙ ap (λ (t : Node). (115 ∷ nodeText true t) ++ entriesText ops nums m rest) (h .0)

@@ -25,7 +25,9 @@ module _ (ops nums : List ℕ) (x : Liveness) (l : List ℕ) where
   unfolding liveText
   live-none a b e w = as-text a b (ap (λ (y : Liveness). liveText ops nums y l) e ∙ none-is) w
 
-  pub live-refused : (a b c d : Tape) (n : ℕ) → x ≡ Refused n → Wrote a (marked liveWord 9) b → Wrote b (marked (decimal n) 9) c → Wrote c (45 ∷ 10 ∷ []) d → Wrote a (liveText ops nums x l) d
+  pub live-refused :
+      (a b c d : Tape) (n : ℕ) → x ≡ Refused n → Wrote a (marked liveWord 9) b → Wrote b (marked (decimal n) 9) c → Wrote c (45 ∷ 10 ∷ []) d
+      → Wrote a (liveText ops nums x l) d
   unfolding liveText
   live-refused a b c d n e p q r =
       as-text a d (ap (λ (y : Liveness). liveText ops nums y l) e)
@@ -34,7 +36,9 @@ module _ (ops nums : List ℕ) (x : Liveness) (l : List ℕ) where
   pub live-ready : (n o : ℕ) → LiveReady ops nums x l → x ≡ Parts n o → EntriesIn ops nums l n
   live-ready n o g e = subst (λ (y : Liveness). LiveReady ops nums y l) e g
 
-  pub live-parts : (a b c d : Tape) (n o : ℕ) → x ≡ Parts n o → Wrote a (108 ∷ 105 ∷ 118 ∷ 101 ∷ 9 ∷ 48 ∷ 9 ∷ []) b → Wrote b (entriesText ops nums n l) c → Wrote c (10 ∷ []) d → Wrote a (liveText ops nums x l) d
+  pub live-parts :
+      (a b c d : Tape) (n o : ℕ) → x ≡ Parts n o → Wrote a (108 ∷ 105 ∷ 118 ∷ 101 ∷ 9 ∷ 48 ∷ 9 ∷ []) b → Wrote b (entriesText ops nums n l) c
+      → Wrote c (10 ∷ []) d → Wrote a (liveText ops nums x l) d
   unfolding liveText
   live-parts a b c d n o e p q r =
       as-text a d (ap (λ (y : Liveness). liveText ops nums y l) e)

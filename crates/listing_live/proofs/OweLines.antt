@@ -84,7 +84,9 @@ module _ (ops nums l : List ℕ) (n : ℕ) where
   unfolding oweLines joined
   owed-first a = record { high = omega arith; wrote = λ os rest p q s. nothing a }
 
-  pub owed-next : (k : ℕ) (a b c : Tape) → Owed ops nums l n k a b → k < n → OweWrote ops nums k (getD l (3 * k) 0) (getD l (3 * k + 1) 0) (getD l (3 * k + 2) 0) b c → Owed ops nums l n (k + 1) a c
+  pub owed-next :
+      (k : ℕ) (a b c : Tape) → Owed ops nums l n k a b → k < n
+      → OweWrote ops nums k (getD l (3 * k) 0) (getD l (3 * k + 1) 0) (getD l (3 * k + 2) 0) b c → Owed ops nums l n (k + 1) a c
   owed-next k a b c s h w = record {
     high = omega arith;
     wrote = λ os rest p q t.

@@ -22,10 +22,6 @@ use Rattle.listing_live.specs.Entry.{OweReady, OweStands, OweWrote, Oper
 abbrev headFields : ℕ → ℕ → List (List ℕ)
 headFields k letter = oweWord ∷ decimal k ∷ (letter ∷ []) ∷ []
 
-pub owe-head : (a b c d e : Tape) (k letter : ℕ) → Wrote a (marked oweWord 9) b → Wrote b (marked (decimal k) 9) c → Wrote c (letter ∷ []) d → Wrote d (9 ∷ []) e → Wrote a (tabbed (headFields k letter)) e
-owe-head a b c d e k letter p q r s =
-    tab-more oweWord (decimal k ∷ (letter ∷ []) ∷ []) p (tab-more (decimal k) ((letter ∷ []) ∷ []) q (tab-more (letter ∷ []) [] (then r s) tab-done))
-
 module _ (ops nums : List ℕ) (kind first second : ℕ) (g : OweReady ops nums kind first second) where
   pub ready-first : Pure ops nums first
   ready-first = g .left
@@ -35,9 +31,6 @@ module _ (ops nums : List ℕ) (kind first second : ℕ) (g : OweReady ops nums 
 
 pub operand-marked : (ops nums : List ℕ) (i mark : ℕ) (a b c : Tape) → Spelled ops nums i true a b → Wrote b (mark ∷ []) c → OperandWrote ops nums i mark a c
 operand-marked ops nums i mark a b c p q = record { is = λ f s. then (p .is f s) q }
-
-other : {B : Type 0} → _≡_ {A = ℕ} 0 1 → B
-other h = absurd (omega arith)
 
 module _ (ops nums : List ℕ) (k kind first second : ℕ) (a b c : Tape) where
   pub owe-eventually : kind < 1 → Wrote a (tabbed (headFields k 69)) b → OperandWrote ops nums first 10 b c → OweWrote ops nums k kind first second a c
@@ -50,7 +43,9 @@ module _ (ops nums : List ℕ) (k kind first second : ℕ) (a b c : Tape) where
           group (headFields k 69) (operandText f) [] p (done (operandText f) (q .is f (subst (λ (n : ℕ). Spells (nodeAt ops nums) n f) (sym z) (s .0))))
       go (U i f j m) e s = let z : kind ≡ 1 = cc in absurd (omega arith)
 
-  pub owe-until : (d : Tape) → 1 ≤ kind → Wrote a (tabbed (headFields k 85)) b → OperandWrote ops nums first 9 b c → OperandWrote ops nums second 10 c d → OweWrote ops nums k kind first second a d
+  pub owe-until :
+      (d : Tape) → 1 ≤ kind → Wrote a (tabbed (headFields k 85)) b → OperandWrote ops nums first 9 b c → OperandWrote ops nums second 10 c d
+      → OweWrote ops nums k kind first second a d
   unfolding oweLine
   owe-until d h p q r = record { is = go }
     where

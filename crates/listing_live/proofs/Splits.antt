@@ -10,6 +10,7 @@ use native.Mathlib.Omega.{arith}
 use native.Mathlib.Nat.{add-zero}
 use lib.ListN.{length, getD, take, drop, length-append}
 use lib.Seq.{sets, sets-eq, getD-append-add}
+use Rattle.terms.specs.Ops.{words}
 use Rattle.formula.specs.Tree.{leaf, one, two, leaf-of, size}
 use Rattle.formula.specs.Spells.{Spells}
 use Rattle.formula.specs.Formula.{Formula, not, next, always, eventually, always-for, within, and, or, implies, until}
@@ -30,7 +31,9 @@ use Rattle.listing_live.specs.Entry.{entriesText, EntryIn, EntriesIn, Sk
 use Rattle.listing_live.proofs.Entries.{entries-text}
 
 -- ---- the skeleton of the formula at i stands
-pub formula-stands : (ops nums : List ℕ) (f : Formula) (i k : ℕ) → Spells (nodeAt ops nums) i f → i + size f ≤ length ops → i + size f ≤ length nums → SkeletonStands ops nums (skeletonOf f i k)
+pub formula-stands :
+    (ops nums : List ℕ) (f : Formula) (i k : ℕ) → Spells (nodeAt ops nums) i f → i + size f ≤ length ops → i + size f ≤ length nums
+    → SkeletonStands ops nums (skeletonOf f i k)
 unfolding SkeletonStands skeletonOf Spells size
 formula-stands ops nums (leaf a) i k s g h = (s, omega arith, omega arith)
 formula-stands ops nums (one not f) i k s g h = formula-stands ops nums f (i + 1) k (s .1) (omega arith) (omega arith)
@@ -100,12 +103,14 @@ module _ (ops nums : List ℕ) where
   abbrev leaves : Skeleton → Type 0
   leaves sk = (rest : List ℕ) (k : ℕ) → k < entries sk → entryOf (skeletonCells sk ++ rest) k
 
-  word-first : (kind : ℕ) (l : List ℕ) → 1 ≤ kind → entryOf (kind ∷ 0 ∷ l) 0
-  word-first kind l h = record { in-ops = λ q. absurd (omega arith); in-nums = λ q. absurd (omega arith) }
+  word-first : (kind : ℕ) (l : List ℕ) → 1 ≤ kind → kind < words → entryOf (kind ∷ 0 ∷ l) 0
+  word-first kind l h b = record { known = b; in-ops = λ q. absurd (omega arith); in-nums = λ q. absurd (omega arith) }
 
-  two-leaves : (kind : ℕ) (s t : Skeleton) → 1 ≤ kind → leaves s → leaves t → (rest : List ℕ) (k : ℕ) → k < 1 + entries s + entries t → entryOf (kind ∷ 0 ∷ ((skeletonCells s ++ skeletonCells t) ++ rest)) k
-  two-leaves kind s t g f h rest zero q = word-first kind ((skeletonCells s ++ skeletonCells t) ++ rest) g
-  two-leaves kind s t g f h rest (suc k) q =
+  two-leaves :
+      (kind : ℕ) (s t : Skeleton) → 1 ≤ kind → kind < words → leaves s → leaves t → (rest : List ℕ) (k : ℕ) → k < 1 + entries s + entries t
+      → entryOf (kind ∷ 0 ∷ ((skeletonCells s ++ skeletonCells t) ++ rest)) k
+  two-leaves kind s t g b f h rest zero q = word-first kind ((skeletonCells s ++ skeletonCells t) ++ rest) g b
+  two-leaves kind s t g b f h rest (suc k) q =
       past-two kind 0 ((skeletonCells s ++ skeletonCells t) ++ rest) k
       (subst (λ (l : List ℕ). entryOf l k) (sym (append-assoc (skeletonCells s) (skeletonCells t) rest))
       (⊎-elim
@@ -115,15 +120,15 @@ module _ (ops nums : List ℕ) where
 
   leaves-in : (sk : Skeleton) → SkeletonStands ops nums sk → leaves sk
   unfolding SkeletonStands skeletonCells entries
-  leaves-in (safety i a) h rest zero q = record { in-ops = λ _. h .1; in-nums = λ _. h .2 }
+  leaves-in (safety i a) h rest zero q = record { known = omega arith; in-ops = λ _. h .1; in-nums = λ _. h .2 }
   leaves-in (safety i a) h rest (suc k) q = absurd (omega arith)
-  leaves-in (owed j) h rest zero q = record { in-ops = λ p. absurd (omega arith); in-nums = λ p. absurd (omega arith) }
+  leaves-in (owed j) h rest zero q = record { known = omega arith; in-ops = λ p. absurd (omega arith); in-nums = λ p. absurd (omega arith) }
   leaves-in (owed j) h rest (suc k) q = absurd (omega arith)
-  leaves-in (Not s) h rest zero q = word-first 3 (skeletonCells s ++ rest) (omega arith)
+  leaves-in (Not s) h rest zero q = word-first 3 (skeletonCells s ++ rest) (omega arith) (omega arith)
   leaves-in (Not s) h rest (suc k) q = past-two 3 0 (skeletonCells s ++ rest) k (leaves-in s h rest k (omega arith))
-  leaves-in (And s t) h rest k q = two-leaves 9 s t (omega arith) (leaves-in s (h .0)) (leaves-in t (h .1)) rest k q
-  leaves-in (Or s t) h rest k q = two-leaves 10 s t (omega arith) (leaves-in s (h .0)) (leaves-in t (h .1)) rest k q
-  leaves-in (Implies s t) h rest k q = two-leaves 11 s t (omega arith) (leaves-in s (h .0)) (leaves-in t (h .1)) rest k q
+  leaves-in (And s t) h rest k q = two-leaves 9 s t (omega arith) (omega arith) (leaves-in s (h .0)) (leaves-in t (h .1)) rest k q
+  leaves-in (Or s t) h rest k q = two-leaves 10 s t (omega arith) (omega arith) (leaves-in s (h .0)) (leaves-in t (h .1)) rest k q
+  leaves-in (Implies s t) h rest k q = two-leaves 11 s t (omega arith) (omega arith) (leaves-in s (h .0)) (leaves-in t (h .1)) rest k q
 
   -- what the `live` line asks, from the split's output
   pub answer-ready : (x : Answer) (r : Liveness) (s s′ o o′ : List ℕ) → outcome r s′ o′ ≡ held x s o → Stood ops nums x s → LiveReady ops nums r s′

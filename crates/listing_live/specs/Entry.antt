@@ -9,6 +9,7 @@ use Prim.Native.Nat.{ℕ, zero, suc, _+_, _*_, _≤_, _<_}
 use lib.Dec.{ltb}
 use lib.ListN.{length, getD, drop}
 use Rattle.terms.specs.Choice.{pick}
+use Rattle.terms.specs.Ops.{words}
 use Rattle.formula.specs.Tree.{leaf-of}
 use Rattle.formula.specs.Spells.{Spells}
 use Rattle.formula.specs.Table.{nodeAt}
@@ -19,7 +20,7 @@ use Rattle.text.specs.Tape.{Tape, Wrote, joined}
 use Rattle.spelling.specs.Scan.{nodeText, Pure}
 use Rattle.split.specs.declared.parts.Liveness.{Liveness}
 use Rattle.split.specs.declared.parts.Liveness.the-variants.{None, Parts, Refused}
-use Rattle.formula.specs.Formula.{Formula}
+use Rattle.formula.specs.Formula.{Formula, node}
 use Rattle.spelling.specs.Spelling.{operandText}
 use Rattle.listing_line.specs.Line.{line, marked, absent}
 use Rattle.listing_live.specs.Live.{liveWord, noneWord, oweLine, oweLines}
@@ -27,17 +28,15 @@ use Rattle.listing_live.specs.Live.{liveWord, noneWord, oweLine, oweLine
 unfoldable pub entryText : List ℕ → List ℕ → ℕ → ℕ → List ℕ
 entryText ops nums kind n =
     pick (ltb kind 1) (115 ∷ nodeText true (nodeAt ops nums n))
-    (pick (ltb kind 2) (35 ∷ decimal n)
-    (pick (ltb kind 4) (33 ∷ [])
-    (pick (ltb kind 10) (38 ∷ [])
-    (pick (ltb kind 11) (124 ∷ []) (62 ∷ [])))))
+    (pick (ltb kind 2) (35 ∷ decimal n) (nodeText true (node kind 0)))
 
 unfoldable pub entriesText : List ℕ → List ℕ → ℕ → List ℕ → List ℕ
 entriesText ops nums zero l = []
 entriesText ops nums (suc n) l = entryText ops nums (getD l 0 0) (getD l 1 0) ++ entriesText ops nums n (drop 2 l)
 
--- a safety leaf's place is in the table
+-- its kind is a word's number at most, and a safety leaf's place is in the table
 pub record EntryIn (ops nums : List ℕ) (kind n : ℕ) : Type 0 where
+  pub known : kind < words
   pub in-ops : kind < 1 → n < length ops
   pub in-nums : kind < 1 → n < length nums
 

@@ -3,17 +3,14 @@ use listing_line::field::put_number;
 use listing_line::field::put_text;
 use spelling::scan::put_word;
 use split::parts::Liveness;
-use terms::entry::IMPLIES;
-use terms::entry::OR;
 use terms::entry::OWED;
-use terms::entry::PAIR;
 use terms::entry::WORD;
 use text::write::put_byte;
 use text::write::put_decimal;
 ghost use Rattle.text.specs.Tape.{tape, Wrote};
 ghost use Rattle.listing_live.specs.Entry.{entryText, entriesText, EntryIn, EntriesIn, liveText, LiveReady};
 
-// One entry of a skeleton: a safety leaf with its place, an obligation with its number, or a word.
+// One entry of a skeleton: a safety leaf with its place, an obligation with its number, or a word as operands have it.
 fn put_entry(out: &mut [u8], at: usize, ops: &[u8], nums: &[u64], kind: u64, n: u64) -> usize
     requires { ⌜ EntryIn (now ops) (now nums) kind n ⌝ }
     ensures { λ r. ⌜ Wrote (tape (now (out .entry)) at) (entryText (now (ops .entry)) (now (nums .entry)) kind n) (tape (now (out .exit)) r) ⌝ }
@@ -27,16 +24,7 @@ fn put_entry(out: &mut [u8], at: usize, ops: &[u8], nums: &[u64], kind: u64, n: 
         let place = put_byte(out, at, 35);
         return put_decimal(out, place, n);
     }
-    if kind < PAIR {
-        return put_byte(out, at, 33);
-    }
-    if kind < OR {
-        return put_byte(out, at, 38);
-    }
-    if kind < IMPLIES {
-        return put_byte(out, at, 124);
-    }
-    put_byte(out, at, 62)
+    put_word(out, at, kind as u8, 0, true)
 }
 
 // The first n entries of a skeleton.

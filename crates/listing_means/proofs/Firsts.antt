@@ -18,7 +18,7 @@ use Rattle.meaning.proofs.Steps.{first-alarm}
 use Rattle.meaning.proofs.Meaning.{report-is-first, report-of-record, culprit-unique, plain-rules}
 use Rattle.book.specs.Book.{StepLine}
 use Rattle.listing_rules.specs.Rules.{Rule, isNone, compiles, mon}
-use Rattle.listing_text.specs.Listing.{freshStates, Report, reports}
+use Rattle.listing_reports.specs.Reports.{freshStates, Report, bookReports}
 use Rattle.listing_means.specs.Reports.{_∈_, lineAt, InOrderLines, Begins, Says, Reported, PlainSays}
 use Rattle.listing_means.specs.Called.{stateAt, Called}
 use Rattle.listing_means.proofs.Calling.{broken-parts, broken-is, called, listed}
@@ -26,7 +26,9 @@ use Rattle.listing_means.proofs.Calling.{broken-parts, broken-is, calle
 -- ---- one monitor
 module _ (m : Mon) (rec : Record) where
   -- lines numbered k, k + 1 and on, with the record's words of these steps
-  stepped : (k : ℕ) (xs : List StepLine) (i : ℕ) → i ≤ length xs → ((j : ℕ) → j < length xs → lineAt xs j .number ≡ k + j) → ((j : ℕ) → j < length xs → rec (k + j) ≡ lineAt xs j .truths) → stateAt m (after m rec k) xs i ≡ after m rec (k + i)
+  stepped :
+      (k : ℕ) (xs : List StepLine) (i : ℕ) → i ≤ length xs → ((j : ℕ) → j < length xs → lineAt xs j .number ≡ k + j)
+      → ((j : ℕ) → j < length xs → rec (k + j) ≡ lineAt xs j .truths) → stateAt m (after m rec k) xs i ≡ after m rec (k + i)
   unfolding stateAt after
   stepped k xs zero h e w = ap (after m rec) (sym (add-zero k))
   stepped k [] (suc i) h e w = absurd (omega arith)
@@ -62,8 +64,8 @@ module _ (R : ℕ → Rule) (n : ℕ) (xs : List StepLine) (rec : Record) (o : I
   number-is : (i : ℕ) (x : StepLine) → i < length xs → x ≡ lineAt xs i → i ≡ x .number
   number-is i x h e = sym (ap (λ (y : StepLine). y .number) e ∙ o i h)
 
-  says-at : (p : Report) → p .rule < n → Called (R (p .rule)) (fresh (mon (R (p .rule)))) xs (p .at .number) (p .at) (p .culprit) → Says R n xs rec p
-  says-at p h k =
+  says-at : (p : Report) → p .rule < n → p .place ≡ p .at .number → Called (R (p .rule)) (fresh (mon (R (p .rule)))) xs (p .at .number) (p .at) (p .culprit) → Says R n xs rec p
+  says-at p h i k =
       let m : Mon = mon (R (p .rule)) in
       let s : ℕ = p .at .number in
       let before : stateAt m (fresh m) xs s ≡ after m rec s = state-after m rec xs o g s (omega (arith, k .place-there)) in
@@ -73,18 +75,20 @@ module _ (R : ℕ → Rule) (n : ℕ) (xs : List StepLine) (rec : Record) (o : I
         rule-there = h;
         rule-compiles = k .rule-compiles;
         step-there = k .place-there;
+        place-is = i;
         line-is = k .line-is;
         alarm-here = f .here;
         none-earlier = λ u z a. f .not-before u (omega arith) a;
         culprit-then = subst (Culprit m rec (suc s)) (sym (k .culprit-after ∙ ap (culprit m) then)) (report-of-record m rec s f .culprit);
       }
 
-  pub says : (p : Report) → p ∈ reports R n (freshStates R) xs → Says R n xs rec p
+  pub says : (p : Report) → p ∈ bookReports R n xs → Says R n xs rec p
   says p h =
-      let (l, (i, k)) = called R n (freshStates R) xs p h in
-      says-at p l (subst (λ (j : ℕ). Called (R (p .rule)) (fresh (mon (R (p .rule)))) xs j (p .at) (p .culprit)) (number-is i (p .at) (k .place-there) (k .line-is)) k)
+      let (l, k) = called R n (freshStates R) xs p h in
+      let i : p .place ≡ p .at .number = number-is (p .place) (p .at) (k .place-there) (k .line-is) in
+      says-at p l i (subst (λ (j : ℕ). Called (R (p .rule)) (fresh (mon (R (p .rule)))) xs j (p .at) (p .culprit)) i k)
 
-  pub said : (p : Report) → Says R n xs rec p → p ∈ reports R n (freshStates R) xs
+  pub said : (p : Report) → Says R n xs rec p → p ∈ bookReports R n xs
   said p k =
       let m : Mon = mon (R (p .rule)) in
       let s : ℕ = p .at .number in
@@ -92,16 +96,19 @@ module _ (R : ℕ → Rule) (n : ℕ) (xs : List StepLine) (rec : Record) (o : I
       let then : stateAt m (fresh m) xs (suc s) ≡ after m rec (suc s) = state-after m rec xs o g (suc s) (omega (arith, k .step-there)) in
       let f : First (Alarm m rec) s = record { here = k .alarm-here; not-before = λ u z a. k .none-earlier u (omega arith) a } in
       let (b, a) = first-marked m rec s f in
-      listed R n (freshStates R) xs s p (k .rule-there) (record {
-        rule-compiles = k .rule-compiles;
-        place-there = k .step-there;
-        line-is = k .line-is;
-        unfailed-before = subst (λ (st : State m). failed m st ≡ false) (sym before) b;
-        failed-after = subst (λ (st : State m). failed m st ≡ true) (sym then) a;
-        culprit-after = culprit-unique m rec (suc s) (p .culprit) (culprit m (after m rec (suc s))) (k .culprit-then) (report-of-record m rec s f .culprit) ∙ ap (culprit m) (sym then);
-      })
+      listed R n (freshStates R) xs p (
+        k .rule-there,
+        subst (λ (j : ℕ). Called (R (p .rule)) (fresh m) xs j (p .at) (p .culprit)) (sym (k .place-is)) (record {
+          rule-compiles = k .rule-compiles;
+          place-there = k .step-there;
+          line-is = k .line-is;
+          unfailed-before = subst (λ (st : State m). failed m st ≡ false) (sym before) b;
+          failed-after = subst (λ (st : State m). failed m st ≡ true) (sym then) a;
+          culprit-after = culprit-unique m rec (suc s) (p .culprit) (culprit m (after m rec (suc s))) (k .culprit-then) (report-of-record m rec s f .culprit) ∙ ap (culprit m) (sym then);
+        }),
+      )
 
-  pub report-iff : (p : Report) → (p ∈ reports R n (freshStates R) xs) ↔ Says R n xs rec p
+  pub report-iff : (p : Report) → (p ∈ bookReports R n xs) ↔ Says R n xs rec p
   report-iff p = (says p, said p)
 
   -- ---- a rule
@@ -115,7 +122,7 @@ module _ (R : ℕ → Rule) (n : ℕ) (xs : List StepLine) (rec : Record) (o : I
     first-reported l c s h f =
         let x : StepLine = lineAt xs s in
         let m : Mon = mon (R r) in
-        let p : Report = record { at = x; rule = r; culprit = culprit m (after m rec (suc s)) } in
+        let p : Report = record { place = s; at = x; rule = r; culprit = culprit m (after m rec (suc s)) } in
         let i : x .number ≡ s = o s h in (
           p,
           refl,
@@ -123,6 +130,7 @@ module _ (R : ℕ → Rule) (n : ℕ) (xs : List StepLine) (rec : Record) (o : I
             rule-there = l;
             rule-compiles = c;
             step-there = omega (arith, i);
+            place-is = sym i;
             line-is = ap (lineAt xs) (sym i);
             alarm-here = subst (Alarm m rec) (sym i) (f .here);
             none-earlier = λ u z a. f .not-before u (omega (arith, i)) a;

@@ -1,83 +1,69 @@
 -- The order of reports: by step line and then by rule. In ascending order, a list is fixed by what stands in it.
-use mathlib.Core.Path.{_≡_, refl, sym, ap, ap₂, subst, _∙_}
+use mathlib.Core.Path.{_≡_, refl, sym, ap₂, subst, _∙_}
 use mathlib.Core.Bool.{Bool, true, false}
 use mathlib.Core.List.{List, [], _∷_, _++_, append-assoc}
 use mathlib.Core.Logic.{_⊎_, inl, inr, ⊎-elim, _↔_}
-use Prim.Native.Nat.{ℕ, zero, suc, _+_, _≤_, _<_}
+use Prim.Native.Nat.{ℕ, zero, suc, _≤_, _<_}
 use native.Mathlib.Omega.{arith}
-use native.Mathlib.Nat.{add-zero, zero-add}
-use lib.ListN.{length}
 use Rattle.terms.specs.Choice.{pick}
 use Rattle.book.specs.Book.{StepLine}
 use Rattle.listing_rules.specs.Rules.{Rule}
-use Rattle.listing_text.specs.Listing.{States, nextStates, Report, breaks, reportOf, reportsAt, reports}
-use Rattle.listing_means.specs.Reports.{_∈_, lineAt, InOrderLines, Earlier, Ascending, ByLine}
+use Rattle.listing_reports.specs.Reports.{States, nextStates, Report, breaks, reportOf, reportsAt, reports}
+use Rattle.listing_means.specs.Reports.{_∈_, Earlier, Ascending}
 
-module _ (xs : List StepLine) where
-  -- what begins behind a line may begin at any rule of it
-  behind : (i r : ℕ) (ps : List Report) → ByLine xs (suc i) 0 ps → ByLine xs i r ps
-  behind i r [] h = tt
-  behind i r (p ∷ ps) (j, l, e, w, t) = (j, l, e, ⊎-elim (λ z. inl (omega arith)) (λ (z, y). inl (omega arith)) w, t)
+-- reports from place i and rule r on: each has a later place, or place i and rule r or a later one; the next has its place and a later rule, or a later place
+abbrev From : ℕ → ℕ → List Report → Type 0
+From i r [] = Unit {0}
+From i r (p ∷ ps) = ((i < p .place) ⊎ ((i ≡ p .place) × (r ≤ p .rule))) × From (p .place) (suc (p .rule)) ps
 
-  module _ (R : ℕ → Rule) (st : States R) (x : StepLine) (i : ℕ) (l : i < length xs) (e : x ≡ lineAt xs i) where
-    -- rule q's own report, if it has one
-    one : (q r : ℕ) (t : Bool) (rest : List Report) → r ≤ q → ((k : ℕ) → k ≤ suc q → ByLine xs i k rest) → ByLine xs i r (pick t (reportOf R st x q ∷ []) [] ++ rest)
-    unfolding reportOf
-    one q r true rest h f = (i, l, e, inr (refl, h), f (suc q) (omega arith))
-    one q r false rest h f = f r (omega arith)
+-- what begins behind a line may begin at any rule of it
+behind : (i r : ℕ) (ps : List Report) → From (suc i) 0 ps → From i r ps
+behind i r [] h = tt
+behind i r (p ∷ ps) (w, t) = (⊎-elim (λ z. inl (omega arith)) (λ (z, y). inl (omega arith)) w, t)
 
-    -- the reports of one line, in front of what follows it
-    front : (n : ℕ) (rest : List Report) → ((k : ℕ) → k ≤ n → ByLine xs i k rest) → ByLine xs i 0 (reportsAt R st x n ++ rest)
-    unfolding reportsAt
-    front zero rest f = f 0 (omega arith)
-    front (suc q) rest f =
-        subst (ByLine xs i 0) (sym (append-assoc (reportsAt R st x q) (pick (breaks R st x q) (reportOf R st x q ∷ []) []) rest))
-        (front q (pick (breaks R st x q) (reportOf R st x q ∷ []) [] ++ rest) (λ k z. one q k (breaks R st x q) rest z f))
+module _ (R : ℕ → Rule) (st : States R) (i : ℕ) (x : StepLine) where
+  -- rule q's own report, if it has one
+  one : (q r : ℕ) (t : Bool) (rest : List Report) → r ≤ q → ((k : ℕ) → k ≤ suc q → From i k rest) → From i r (pick t (reportOf R st i x q ∷ []) [] ++ rest)
+  unfolding reportOf
+  one q r true rest h f = (inr (refl, h), f (suc q) (omega arith))
+  one q r false rest h f = f r (omega arith)
 
-  -- ys: the step lines from place i on
-  from-place : (R : ℕ → Rule) (n : ℕ) (st : States R) (i : ℕ) (ys : List StepLine) → i + length ys ≡ length xs → ((j : ℕ) → j < length ys → lineAt ys j ≡ lineAt xs (i + j)) → ByLine xs i 0 (reports R n st ys)
-  unfolding reports
-  from-place R n st i [] h e = tt
-  from-place R n st i (x ∷ ys) h e =
-      let y : (j : ℕ) → i + suc j ≡ suc i + j = λ j. omega arith in
-      front R st x i (omega (arith, h)) (e 0 (omega arith) ∙ ap (lineAt xs) (add-zero i)) n (reports R n (nextStates R st x) ys)
-      (λ k z. behind i k (reports R n (nextStates R st x) ys) (from-place R n (nextStates R st x) (suc i) ys (omega (arith, h)) (λ j w. e (suc j) (omega arith) ∙ ap (lineAt xs) (y j))))
+  -- the reports of one line, in front of what follows it
+  front : (n : ℕ) (rest : List Report) → ((k : ℕ) → k ≤ n → From i k rest) → From i 0 (reportsAt R st i x n ++ rest)
+  unfolding reportsAt
+  front zero rest f = f 0 (omega arith)
+  front (suc q) rest f =
+      subst (From i 0) (sym (append-assoc (reportsAt R st i x q) (pick (breaks R st x q) (reportOf R st i x q ∷ []) []) rest))
+      (front q (pick (breaks R st x q) (reportOf R st i x q ∷ []) [] ++ rest) (λ k z. one q k (breaks R st x q) rest z f))
 
-  pub by-line : (R : ℕ → Rule) (n : ℕ) (st : States R) → ByLine xs 0 0 (reports R n st xs)
-  by-line R n st = from-place R n st 0 xs (zero-add (length xs)) (λ j z. ap (lineAt xs) (sym (zero-add j)))
+from-place : (R : ℕ → Rule) (n : ℕ) (st : States R) (i : ℕ) (xs : List StepLine) → From i 0 (reports R n st i xs)
+unfolding reports
+from-place R n st i [] = tt
+from-place R n st i (x ∷ xs) =
+    front R st i x n (reports R n (nextStates R st x) (suc i) xs)
+    (λ k z. behind i k (reports R n (nextStates R st x) (suc i) xs) (from-place R n (nextStates R st x) (suc i) xs))
 
-  -- ---- step lines in order: a line's place is its number
-  module _ (o : InOrderLines xs) where
-    place-is : (j : ℕ) (p : Report) → j < length xs → p .at ≡ lineAt xs j → p .at .number ≡ j
-    place-is j p l e = ap (λ (y : StepLine). y .number) e ∙ o j l
+follows : (i r : ℕ) (ps : List Report) → From i r ps → (q : Report) → q ∈ ps → (i < q .place) ⊎ ((i ≡ q .place) × (r ≤ q .rule))
+follows i r [] h q z = absurd z
+follows i r (p ∷ ps) (w, t) q z = ⊎-elim
+    (λ (y : q ≡ p). subst (λ (u : Report). (i < u .place) ⊎ ((i ≡ u .place) × (r ≤ u .rule))) (sym y) w)
+    (λ y. later w (follows (p .place) (suc (p .rule)) ps t q y))
+    z
+  where
+    later :
+        (i < p .place) ⊎ ((i ≡ p .place) × (r ≤ p .rule)) → (p .place < q .place) ⊎ ((p .place ≡ q .place) × (suc (p .rule) ≤ q .rule))
+        → (i < q .place) ⊎ ((i ≡ q .place) × (r ≤ q .rule))
+    later (inl a) (inl b) = inl (omega arith)
+    later (inl a) (inr b) = inl (omega (arith, b .0))
+    later (inr a) (inl b) = inl (omega (arith, a .0))
+    later (inr a) (inr b) = inr (omega (arith, a .0, b .0), omega (arith, a .1, b .1))
 
-    follows : (i r : ℕ) (ps : List Report) → ByLine xs i r ps → (q : Report) → q ∈ ps → (i < q .at .number) ⊎ ((i ≡ q .at .number) × (r ≤ q .rule))
-    follows i r [] h q z = absurd z
-    follows i r (p ∷ ps) (j, l, e, w, t) q z = ⊎-elim
-        (λ (y : q ≡ p).
-        let a : q .at .number ≡ j = ap (λ (u : Report). u .at .number) y ∙ place-is j p l e in
-        let b : q .rule ≡ p .rule = ap (λ (u : Report). u .rule) y in
-        ⊎-elim (λ v. inl (omega (arith, a))) (λ (v, u). inr (omega (arith, a), omega (arith, b))) w)
-        (λ y. later w (follows j (suc (p .rule)) ps t q y))
-        z
-      where
-        later : (i < j) ⊎ ((i ≡ j) × (r ≤ p .rule)) → (j < q .at .number) ⊎ ((j ≡ q .at .number) × (suc (p .rule) ≤ q .rule)) → (i < q .at .number) ⊎ ((i ≡ q .at .number) × (r ≤ q .rule))
-        later (inl a) (inl b) = inl (omega arith)
-        later (inl a) (inr b) = inl (omega (arith, b .0))
-        later (inr a) (inl b) = inl (omega (arith, a .0))
-        later (inr a) (inr b) = inr (omega (arith, a .0, b .0), omega (arith, a .1, b .1))
+ascends : (i r : ℕ) (ps : List Report) → From i r ps → Ascending ps
+ascends i r [] h = tt
+ascends i r (p ∷ ps) (w, t) = (λ q z. follows (p .place) (suc (p .rule)) ps t q z, ascends (p .place) (suc (p .rule)) ps t)
 
-    ascends : (i r : ℕ) (ps : List Report) → ByLine xs i r ps → Ascending ps
-    ascends i r [] h = tt
-    ascends i r (p ∷ ps) (j, l, e, w, t) = (
-      λ q z.
-          let a : p .at .number ≡ j = place-is j p l e in
-          ⊎-elim (λ y. inl (omega (arith, a))) (λ (y, v). inr (omega (arith, a), omega arith)) (follows j (suc (p .rule)) ps t q z),
-      ascends j (suc (p .rule)) ps t,
-    )
-
-    pub ascending : (R : ℕ → Rule) (n : ℕ) (st : States R) → Ascending (reports R n st xs)
-    ascending R n st = ascends 0 0 (reports R n st xs) (by-line R n st)
+pub ascending : (R : ℕ → Rule) (n : ℕ) (st : States R) (xs : List StepLine) → Ascending (reports R n st 0 xs)
+ascending R n st xs = ascends 0 0 (reports R n st 0 xs) (from-place R n st 0 xs)
 
 -- ---- an order in which a list has no choice
 not-both-ways : (p q : Report) {B : Type 0} → Earlier p q → Earlier q p → B

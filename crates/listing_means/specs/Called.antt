@@ -10,7 +10,7 @@ use Rattle.monitor.specs.Mon.{Mon}
 use Rattle.meaning.specs.State.{State, failed, culprit, step}
 use Rattle.book.specs.Book.{StepLine}
 use Rattle.listing_rules.specs.Rules.{Rule, compiles, mon}
-use Rattle.listing_text.specs.Listing.{Report}
+use Rattle.listing_reports.specs.Reports.{Report}
 use Rattle.listing_means.specs.Reports.{lineAt}
 
 -- the state after the first i lines
@@ -31,4 +31,4 @@ pub record Called (q : Rule) (st : State (mon q)) (xs : List StepLine) (i : ℕ)
 
 -- a report as in a book with that rule alone
 abbrev pub alone : Report → Report
-alone p = record { at = p .at; rule = 0; culprit = p .culprit }
+alone p = record { place = p .place; at = p .at; rule = 0; culprit = p .culprit }

@@ -3,8 +3,7 @@
 --     Begins          the first words of an endless record are the truths of the step lines
 --     Says            a report that document 01 asks for
 --     Reported        a rule has a report
---     Ascending       reports by step and then by rule
---     ByLine          the same for step lines of any numbers, by their places among the step lines
+--     Ascending       reports by step line and then by rule
 --     Listed          all of it, of a book's listing
 use mathlib.Core.Bool.{true}
 use mathlib.Core.List.{List, [], _∷_, _++_}
@@ -17,7 +16,10 @@ use Rattle.meaning.specs.Culprit.{Culprit}
 use Rattle.meaning.specs.Logic.{Fails}
 use Rattle.book.specs.Book.{Book, StepLine}
 use Rattle.listing_rules.specs.Rules.{Rule, compiles, mon}
-use Rattle.listing_text.specs.Listing.{Report, freshStates, reports, rulesText, reportLines, endLine, ruleAt, listing}
+use Rattle.listing_head.specs.Head.{rulesText}
+use Rattle.listing_reports.specs.Reports.{Report, bookReports, kindsOf, endCount}
+use Rattle.listing_reports.specs.Tail.{reportLines, endLine}
+use Rattle.listing_text.specs.Listing.{ruleAt, listing}
 
 -- a report stands in a list
 infix 50 _∈_
@@ -47,6 +49,7 @@ pub record Says (R : ℕ → Rule) (n : ℕ) (xs : List StepLine) (rec : Record)
   pub rule-compiles : compiles (R (p .rule)) ≡ true
   -- its step is that of a step line, and that line is its own
   pub step-there : p .at .number < length xs
+  pub place-is : p .place ≡ p .at .number
   pub line-is : p .at ≡ lineAt xs (p .at .number)
   -- the rule's alarm holds at that step and at no earlier one
   pub alarm-here : Alarm (mon (R (p .rule))) rec (p .at .number)
@@ -56,7 +59,7 @@ pub record Says (R : ℕ → Rule) (n : ℕ) (xs : List StepLine) (rec : Record)
 
 -- rule r has a report
 abbrev pub Reported : (ℕ → Rule) → ℕ → List StepLine → ℕ → Type 0
-Reported R n xs r = (p : Report) × (p .rule ≡ r) × (p ∈ reports R n (freshStates R) xs)
+Reported R n xs r = (p : Report) × (p .rule ≡ r) × (p ∈ bookReports R n xs)
 
 -- a plain rule, over a record that begins with the truths of the step lines
 pub record PlainSays (R : ℕ → Rule) (n : ℕ) (xs : List StepLine) (rec : Record) (r : ℕ) : Type 0 where
@@ -70,24 +73,17 @@ pub record PlainSays (R : ℕ → Rule) (n : ℕ) (xs : List StepLine) (rec : Re
 -- ---- their order
 abbrev pub Earlier : Report → Report → Type 0
 Earlier p q =
-    (p .at .number < q .at .number) ⊎ ((p .at .number ≡ q .at .number) × (p .rule < q .rule))
+    (p .place < q .place) ⊎ ((p .place ≡ q .place) × (p .rule < q .rule))
 
 -- each report is earlier than all that follow it
 abbrev pub Ascending : List Report → Type 0
 Ascending [] = Unit {0}
 Ascending (p ∷ ps) = ((q : Report) → q ∈ ps → Earlier p q) × Ascending ps
 
--- reports from the line at place i and rule r on: each has a place j for its line, later than i, or i itself with rule r or a later one; the
--- next report has the same place and a later rule, or a later place
-abbrev pub ByLine : List StepLine → ℕ → ℕ → List Report → Type 0
-ByLine xs i r [] = Unit {0}
-ByLine xs i r (p ∷ ps) =
-    (j : ℕ) × (j < length xs) × (p .at ≡ lineAt xs j) × ((i < j) ⊎ ((i ≡ j) × (r ≤ p .rule))) × ByLine xs j (suc (p .rule)) ps
-
 -- ---- the listing of a book
 -- its `report` lines are those of a list of reports, in order, that holds what is asked for and nothing else
 pub record Listed (text : List ℕ) (b : Book) : Type 0 where
   pub found : List Report
-  pub prints : listing text ≡ rulesText (ruleAt b) (length (b .labels)) ++ (reportLines found ++ endLine (length found))
+  pub prints : listing text ≡ rulesText (ruleAt b) (length (b .labels)) ++ (reportLines found ++ endLine (endCount (kindsOf (ruleAt b)) found))
   pub says : (p : Report) → (p ∈ found) ↔ Says (ruleAt b) (length (b .labels)) (b .steps) (truthsOf (b .steps)) p
   pub ascending : Ascending found

@@ -115,14 +115,19 @@ module _ (ops nums : List ℕ) (first n : ℕ) (f : Formula) (u : Rule ops nums 
   unfolding cellLine
   row-line k (RangeCheck s r) b c g w = go (signalOf f first s) refl g
     where
-      go : (o : Option Signal) → signalOf f first s ≡ o → KnownToken (checked (λ x. leaf-of (range-check x r)) o) → Wrote b (cellLine k (checked (λ x. leaf-of (range-check x r)) o)) c
+      go :
+          (o : Option Signal) → signalOf f first s ≡ o → KnownToken (checked (λ x. leaf-of (range-check x r)) o)
+          → Wrote b (cellLine k (checked (λ x. leaf-of (range-check x r)) o)) c
       go none q g = absurd g
       go (some x) q g =
           let y = named s x q in
           w .of-check (range-check x r) (ap (λ (z : SignalExpr). RangeCheck z r) (y .is)) (y .stands, y .stands)
   row-line k (DelayedCheck s t r) b c g w = go (signalOf f first s) (signalOf f first t) refl refl g
     where
-      go : (o p : Option Signal) → signalOf f first s ≡ o → signalOf f first t ≡ p → KnownToken (checked (λ x. checked (λ y. leaf-of (delayed-check x y r)) p) o) → Wrote b (cellLine k (checked (λ x. checked (λ y. leaf-of (delayed-check x y r)) p) o)) c
+      go :
+          (o p : Option Signal) → signalOf f first s ≡ o → signalOf f first t ≡ p
+          → KnownToken (checked (λ x. checked (λ y. leaf-of (delayed-check x y r)) p) o)
+          → Wrote b (cellLine k (checked (λ x. checked (λ y. leaf-of (delayed-check x y r)) p) o)) c
       go none p q q′ g = absurd g
       go (some x) none q q′ g = absurd g
       go (some x) (some x′) q q′ g =
@@ -131,7 +136,10 @@ module _ (ops nums : List ℕ) (first n : ℕ) (f : Formula) (u : Rule ops nums 
           w .of-check (delayed-check x x′ r) (ap₂ (λ (z z′ : SignalExpr). DelayedCheck z z′ r) (y .is) (y′ .is)) (y .stands, y′ .stands)
   row-line k (Obligation m s t r) b c g w = go (signalOf f first s) (signalOf f first t) refl refl g
     where
-      go : (o p : Option Signal) → signalOf f first s ≡ o → signalOf f first t ≡ p → KnownToken (checked (λ x. checked (λ y. leaf-of (obligation m x y r)) p) o) → Wrote b (cellLine k (checked (λ x. checked (λ y. leaf-of (obligation m x y r)) p) o)) c
+      go :
+          (o p : Option Signal) → signalOf f first s ≡ o → signalOf f first t ≡ p
+          → KnownToken (checked (λ x. checked (λ y. leaf-of (obligation m x y r)) p) o)
+          → Wrote b (cellLine k (checked (λ x. checked (λ y. leaf-of (obligation m x y r)) p) o)) c
       go none p q q′ g = absurd g
       go (some x) none q q′ g = absurd g
       go (some x) (some x′) q q′ g =
@@ -149,13 +157,17 @@ module _ (ops nums : List ℕ) (first n : ℕ) (f : Formula) (u : Rule ops nums 
       go (some x) q g = (named s x q .ready, named s x q .ready)
   row-ready (DelayedCheck s t r) g = go (signalOf f first s) (signalOf f first t) refl refl g
     where
-      go : (o p : Option Signal) → signalOf f first s ≡ o → signalOf f first t ≡ p → KnownToken (checked (λ x. checked (λ y. leaf-of (delayed-check x y r)) p) o) → NodeReady ops nums (DelayedCheck s t r)
+      go :
+          (o p : Option Signal) → signalOf f first s ≡ o → signalOf f first t ≡ p
+          → KnownToken (checked (λ x. checked (λ y. leaf-of (delayed-check x y r)) p) o) → NodeReady ops nums (DelayedCheck s t r)
       go none p q q′ g = absurd g
       go (some x) none q q′ g = absurd g
       go (some x) (some x′) q q′ g = (named s x q .ready, named t x′ q′ .ready)
   row-ready (Obligation m s t r) g = go (signalOf f first s) (signalOf f first t) refl refl g
     where
-      go : (o p : Option Signal) → signalOf f first s ≡ o → signalOf f first t ≡ p → KnownToken (checked (λ x. checked (λ y. leaf-of (obligation m x y r)) p) o) → NodeReady ops nums (Obligation m s t r)
+      go :
+          (o p : Option Signal) → signalOf f first s ≡ o → signalOf f first t ≡ p
+          → KnownToken (checked (λ x. checked (λ y. leaf-of (obligation m x y r)) p) o) → NodeReady ops nums (Obligation m s t r)
       go none p q q′ g = absurd g
       go (some x) none q q′ g = absurd g
       go (some x) (some x′) q q′ g = (named s x q .ready, named t x′ q′ .ready)
@@ -177,7 +189,10 @@ count-size (one n t) = elim n [ ]
 count-size (two join-and l r) = ap₂ (λ (x y : ℕ). 1 + x + y) (count-size l) (count-size r)
 count-size (two join-or l r) = ap₂ (λ (x y : ℕ). 1 + x + y) (count-size l) (count-size r)
 
-joined-lines : (l r : Tree Check Never Join) (k : ℕ) → cellLines (prefix l) (k + 1) ≡ nodeLines (fromTree l) (k + 1) → ((j : ℕ) → cellLines (prefix r) j ≡ nodeLines (fromTree r) j) → cellLines (prefix l ++ prefix r) (k + 1) ≡ nodeLines (fromTree l) (k + 1) ++ nodeLines (fromTree r) (k + 1 + count (fromTree l))
+joined-lines :
+    (l r : Tree Check Never Join) (k : ℕ) → cellLines (prefix l) (k + 1) ≡ nodeLines (fromTree l) (k + 1)
+    → ((j : ℕ) → cellLines (prefix r) j ≡ nodeLines (fromTree r) j)
+    → cellLines (prefix l ++ prefix r) (k + 1) ≡ nodeLines (fromTree l) (k + 1) ++ nodeLines (fromTree r) (k + 1 + count (fromTree l))
 joined-lines l r k p q =
     let n : length (prefix l) ≡ count (fromTree l) = prefix-length l ∙ sym (count-size l) in
     lines-append (prefix l) (prefix r) (k + 1) ∙ ap₂ _++_ p (ap (λ (j : ℕ). cellLines (prefix r) (k + 1 + j)) n ∙ q (k + 1 + count (fromTree l)))
@@ -237,7 +252,9 @@ module _ (ops nums nodes : List ℕ) (nfirst ncount : ℕ) where
     unfolding cells
     is-cell first n f e = ap₂ (λ (o : Option Formula) (x : Row). cellBy o first x) e (sym r)
 
-    known-row : (first n : ℕ) (m : Mon) → compiledOf ops nums first n nodes nfirst ncount ≡ some m → (f : Formula) × Rule ops nums first n f × (cells ops nums first n nodes (nfirst + k) ≡ cellOf f first row) × KnownToken (cellOf f first row)
+    known-row :
+        (first n : ℕ) (m : Mon) → compiledOf ops nums first n nodes nfirst ncount ≡ some m
+        → (f : Formula) × Rule ops nums first n f × (cells ops nums first n nodes (nfirst + k) ≡ cellOf f first row) × KnownToken (cellOf f first row)
     known-row first n m e =
         let (f, t, x, y) = held-inv ops nums first n nodes nfirst ncount m e in
         let c = is-cell first n f (x .rule) in

@@ -5,10 +5,10 @@ use lib.IntN.{pos}
 use Rattle.number.specs.Digits.{digits}
 use Rattle.text.specs.Tape.{signed}
 use Rattle.listing_line.specs.Line.{line}
-use Rattle.listing_text.specs.Listing.{reportLine, endLine, refusedLine}
+use Rattle.listing_reports.specs.Tail.{reportLine, endLine, refusedLine}
 
 -- `report 2 0 0`
-pub whole-report : reportLine (record { at = record { number = 2; truths = 0 }; rule = 0; culprit = pos 0 }) ≡ 114 ∷ 101 ∷ 112 ∷ 111 ∷ 114 ∷ 116 ∷ 9 ∷ 50 ∷ 9 ∷ 48 ∷ 9 ∷ 48 ∷ 10 ∷ []
+pub whole-report : reportLine (record { place = 2; at = record { number = 2; truths = 0 }; rule = 0; culprit = pos 0 }) ≡ 114 ∷ 101 ∷ 112 ∷ 111 ∷ 114 ∷ 116 ∷ 9 ∷ 50 ∷ 9 ∷ 48 ∷ 9 ∷ 48 ∷ 10 ∷ []
 unfolding reportLine line digits signed
 whole-report = refl
 

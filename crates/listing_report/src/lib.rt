@@ -7,7 +7,7 @@ ghost use mathlib.Core.List.{[], _∷_};
 ghost use Rattle.number.specs.Digits.{decimal};
 ghost use Rattle.text.specs.Tape.{tape, Wrote, Culprit};
 ghost use Rattle.listing_line.specs.Line.{tabbed};
-ghost use Rattle.listing_text.specs.Listing.{reportWord, endLine, refusedLine};
+ghost use Rattle.listing_reports.specs.Tail.{reportWord, endLine, refusedLine};
 ghost use Rattle.listing_report.specs.Written.{ReportWrote};
 
 // The first three fields of a report: the word, the step and the rule.

@@ -86,7 +86,9 @@ module _ (ops nums : List ℕ) (first count′ i : ℕ) (nodes : List ℕ) (h : 
         ∙ ap (λ (o : Option Formula). compileFormula o first lent) (s .formula)
         ∙ ap (λ (x : ℕ). firstOr (ruleFaults (q .formula)) (ruleNode (q .formula) x) lent) (sym (s .place))
 
-  pub made : (ys : List ℕ) (r : Compiled) → Answers (compileCall ops nums first count′ lent) r ys → Made ops nums first count′ i nodes (take (7 * i) nodes ++ (ys ++ drop (length nodes - 7 * i) (drop (7 * i) nodes))) r
+  pub made :
+      (ys : List ℕ) (r : Compiled) → Answers (compileCall ops nums first count′ lent) r ys
+      → Made ops nums first count′ i nodes (take (7 * i) nodes ++ (ys ++ drop (length nodes - 7 * i) (drop (7 * i) nodes))) r
   made ys r a = record {
     answers = λ q s. a .answers ∙ ap (λ (x : Call). x .answer) (called q s) ∙ answer-is (ruleFaults (q .formula)) (mon q) lent;
     leaves = λ q s.
@@ -113,7 +115,9 @@ module _ (ops nums : List ℕ) (first count′ i : ℕ) (nodes nodes′ : List �
         let (x, y) = by-nodes (ruleFaults (q .formula)) (mon q) k (sym (ap resultOf e) ∙ u .answers q s) in
         record { fits = omega (arith, count-few ops nums first count′ q s) }
 
-    pub some-entered : (r : ℕ) (nfirsts ncounts refusals : List ℕ) → Entering ops nums first count′ r i (i + k) nodes nodes′ nfirsts (set nfirsts r i) ncounts (set ncounts r k) refusals (set refusals r 0)
+    pub some-entered :
+        (r : ℕ) (nfirsts ncounts refusals : List ℕ)
+        → Entering ops nums first count′ r i (i + k) nodes nodes′ nfirsts (set nfirsts r i) ncounts (set ncounts r k) refusals (set refusals r 0)
     unfolding refusal
     some-entered r nfirsts ncounts refusals = record {
       is = λ q s.
@@ -128,7 +132,9 @@ module _ (ops nums : List ℕ) (first count′ i : ℕ) (nodes nodes′ : List �
     }
 
   module _ (e : c ≡ Refused k) where
-    pub none-entered : (r : ℕ) (nfirsts ncounts refusals : List ℕ) → Entering ops nums first count′ r i i nodes nodes′ nfirsts (set nfirsts r i) ncounts (set ncounts r 0) refusals (set refusals r k)
+    pub none-entered :
+        (r : ℕ) (nfirsts ncounts refusals : List ℕ)
+        → Entering ops nums first count′ r i i nodes nodes′ nfirsts (set nfirsts r i) ncounts (set ncounts r 0) refusals (set refusals r k)
     unfolding refusal
     none-entered r nfirsts ncounts refusals = record {
       is = λ q s.

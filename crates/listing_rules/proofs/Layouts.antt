@@ -15,7 +15,8 @@ use Rattle.listing_rules.specs.Tabled.{Held, Tabled, Placed}
 use Rattle.listing_rules.specs.Answers.{Placeable, Places}
 use Rattle.listing_rules.proofs.Refusals.{refusal-zero, zero-compiles}
 
-module _ {ops nums kinds firsts counts nodes nfirsts ncounts refusals : List ℕ} {R : ℕ → Rule} {n : ℕ} (w : Held ops nums kinds firsts counts R n) (t : Tabled ops nums firsts counts nodes nfirsts ncounts refusals R n) where
+module _ {ops nums kinds firsts counts nodes nfirsts ncounts refusals : List ℕ} {R : ℕ → Rule} {n : ℕ} (w : Held ops nums kinds firsts counts R n)
+    (t : Tabled ops nums firsts counts nodes nfirsts ncounts refusals R n) where
   kind-same : (r : ℕ) → r < n → isZero kinds r ≡ property (R r)
   kind-same r h = ap (λ (v : ℕ). eqb v 0) (sym (w .kind r h))
 
@@ -33,7 +34,8 @@ module _ {ops nums kinds firsts counts nodes nfirsts ncounts refusals : List ℕ
     parts = λ r h e. table-part ops nums (getD firsts r 0) (getD counts r 0) nodes (getD nfirsts r 0) (getD ncounts r 0) (mon (R r)) (t .compiled r h (zero-compiles t r h e));
   }
 
-  module _ (starts starts′ bits bits′ : List ℕ) (in-starts : 64 ≤ length starts) (in-bits : 64 ≤ length bits) (a : Arranged n (isZero kinds) (isZero refusals) (partBits nodes nfirsts ncounts) starts starts′ bits bits′) where
+  module _ (starts starts′ bits bits′ : List ℕ) (in-starts : 64 ≤ length starts) (in-bits : 64 ≤ length bits)
+      (a : Arranged n (isZero kinds) (isZero refusals) (partBits nodes nfirsts ncounts) starts starts′ bits bits′) where
     placed : Placed R n starts′ bits′
     unfolding firstBitOf
     placed = record {
@@ -59,7 +61,9 @@ module _ (kinds nodes nfirsts ncounts refusals : List ℕ) (n : ℕ) (starts bit
   pub bits-room : n ≤ length bits
   bits-room = omega (arith, p .held .few, p .in-bits)
 
-  pub places : (starts′ bits′ : List ℕ) → Arranged n (isZero kinds) (isZero refusals) (partBits nodes nfirsts ncounts) starts starts′ bits bits′ → Places kinds nodes nfirsts ncounts refusals n starts′ bits′
+  pub places :
+      (starts′ bits′ : List ℕ) → Arranged n (isZero kinds) (isZero refusals) (partBits nodes nfirsts ncounts) starts starts′ bits bits′
+      → Places kinds nodes nfirsts ncounts refusals n starts′ bits′
   places starts′ bits′ a = record {
     is = λ ops nums firsts counts R w t. placed w t starts starts′ bits bits′ (p .in-starts) (p .in-bits) a;
   }

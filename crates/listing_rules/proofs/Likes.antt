@@ -62,7 +62,9 @@ module _ (ops nums firsts counts nodes nfirsts ncounts refusals : List ℕ) wher
         is = λ R n t i c. sym (ap (λ (b : Bool). b && alikeMon (mon (R q)) (mon (R r))) (other-refused t q (omega arith) e));
       }
 
-      pub like-same : (b : Bool) → getD refusals q 0 ≡ 0 → b ≡ alikeSome (partOf ops nums nodes (partAt q)) (partOf ops nums nodes (partAt r)) → Like ops nums firsts counts nodes nfirsts ncounts refusals q r b
+      pub like-same :
+          (b : Bool) → getD refusals q 0 ≡ 0 → b ≡ alikeSome (partOf ops nums nodes (partAt q)) (partOf ops nums nodes (partAt r))
+          → Like ops nums firsts counts nodes nfirsts ncounts refusals q r b
       unfolding likeOf
       like-same b e p = record {
         is = λ R n t i c.

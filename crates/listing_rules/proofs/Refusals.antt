@@ -71,6 +71,13 @@ pub compiles-zero : (q : Rule) → eqb (refusal q) 0 ≡ compiles q
 unfolding compiles refusal
 compiles-zero q = none-first (ruleFaults (q .formula)) (fault-numbers (q .formula) false)
 
+-- a refusal of 0 is none
+pub zero-is-none : (q : Rule) → refusal q ≡ 0 → compiles q ≡ true
+zero-is-none q e = sym (compiles-zero q) ∙ eq-eqb (refusal q) 0 e
+
+pub other-is-one : (q : Rule) → (refusal q ≡ 0 → ⊥) → compiles q ≡ false
+other-is-one q e = sym (compiles-zero q) ∙ ne-eqb (refusal q) 0 e
+
 -- no refusal applies to a rule that compiles
 pub no-faults : (q : Rule) → compiles q ≡ true → ruleFaults (q .formula) ≡ []
 unfolding compiles
@@ -80,12 +87,13 @@ no-faults q h = go (ruleFaults (q .formula)) h
     go [] e = refl
     go (n ∷ ns) e = let z : _≡_ {A = ℕ} 0 1 = cc in absurd (omega arith)
 
-module _ {ops nums firsts counts nodes nfirsts ncounts refusals : List ℕ} {R : ℕ → Rule} {n : ℕ} (t : Tabled ops nums firsts counts nodes nfirsts ncounts refusals R n) (r : ℕ) (h : r < n) where
+module _ {ops nums firsts counts nodes nfirsts ncounts refusals : List ℕ} {R : ℕ → Rule} {n : ℕ}
+    (t : Tabled ops nums firsts counts nodes nfirsts ncounts refusals R n) (r : ℕ) (h : r < n) where
   pub refusal-zero : isZero refusals r ≡ compiles (R r)
   refusal-zero = ap (λ (v : ℕ). eqb v 0) (t .refused r h) ∙ compiles-zero (R r)
 
   pub zero-compiles : getD refusals r 0 ≡ 0 → compiles (R r) ≡ true
-  zero-compiles e = sym refusal-zero ∙ eq-eqb _ 0 e
+  zero-compiles e = zero-is-none (R r) (sym (t .refused r h) ∙ e)
 
   pub other-refused : (getD refusals r 0 ≡ 0 → ⊥) → compiles (R r) ≡ false
-  other-refused e = sym refusal-zero ∙ ne-eqb _ 0 e
+  other-refused e = other-is-one (R r) (λ z. e (t .refused r h ∙ z))

@@ -68,7 +68,11 @@ none-yet R n firsts nodes nfirsts ncounts refusals = record {
   behind = λ h. omega arith;
 }
 
-module _ {ops nums kinds firsts counts : List ℕ} {R : ℕ → Rule} {n : ℕ} (w : Held ops nums kinds firsts counts R n) (r i i′ : ℕ) (nodes nodes′ nfirsts nfirsts′ ncounts ncounts′ refusals refusals′ : List ℕ) (h : r < n) (in-nodes : 8960 ≤ length nodes) (in-nfirsts : 64 ≤ length nfirsts) (in-ncounts : 64 ≤ length ncounts) (in-refusals : 64 ≤ length refusals) (s : SoFar R n r i firsts nodes nfirsts ncounts refusals) (e : Entered (R r) r i i′ nodes nodes′ nfirsts nfirsts′ ncounts ncounts′ refusals refusals′) where
+module _ {ops nums kinds firsts counts : List ℕ} {R : ℕ → Rule} {n : ℕ} (w : Held ops nums kinds firsts counts R n) (r i i′ : ℕ)
+    (nodes nodes′ nfirsts nfirsts′ ncounts ncounts′ refusals refusals′ : List ℕ) (h : r < n) (in-nodes : 8960 ≤ length nodes)
+    (in-nfirsts : 64 ≤ length nfirsts) (in-ncounts : 64 ≤ length ncounts) (in-refusals : 64 ≤ length refusals)
+    (s : SoFar R n r i firsts nodes nfirsts ncounts refusals)
+    (e : Entered (R r) r i i′ nodes nodes′ nfirsts nfirsts′ ncounts ncounts′ refusals refusals′) where
   few : r < 64
   few = omega (arith, w .few)
 
@@ -115,7 +119,8 @@ module _ {ops nums kinds firsts counts : List ℕ} {R : ℕ → Rule} {n : ℕ} 
   }
 
 -- ---- all rules
-module _ {ops nums kinds firsts counts : List ℕ} {R : ℕ → Rule} {n : ℕ} (w : Held ops nums kinds firsts counts R n) (i : ℕ) (nodes nfirsts ncounts refusals : List ℕ) (in-nodes : 8960 ≤ length nodes) (s : SoFar R n n i firsts nodes nfirsts ncounts refusals) where
+module _ {ops nums kinds firsts counts : List ℕ} {R : ℕ → Rule} {n : ℕ} (w : Held ops nums kinds firsts counts R n) (i : ℕ)
+    (nodes nfirsts ncounts refusals : List ℕ) (in-nodes : 8960 ≤ length nodes) (s : SoFar R n n i firsts nodes nfirsts ncounts refusals) where
   module _ (r : ℕ) (h : r < n) (c : compiles (R r) ≡ true) where
     rows-there : rowsOf (R r) ≡ rows (mon (R r))
     rows-there = ap (λ (fs : List ℕ). rowsBy fs (mon (R r))) (no-faults (R r) c)
@@ -168,7 +173,9 @@ module _ (ops nums kinds firsts counts : List ℕ) (n : ℕ) (nodes₀ nfirsts�
     so-far = λ R w. none-yet R n firsts nodes₀ nfirsts₀ ncounts₀ refusals₀;
   }
 
-  module _ (nodes nfirsts ncounts refusals : List ℕ) (i r : ℕ) (u : Filling ops nums kinds firsts counts n nodes₀ nodes nfirsts₀ nfirsts ncounts₀ ncounts refusals₀ refusals i r) (p : Fillable ops nums kinds firsts counts nodes₀ nfirsts₀ ncounts₀ refusals₀ n) where
+  module _ (nodes nfirsts ncounts refusals : List ℕ) (i r : ℕ)
+      (u : Filling ops nums kinds firsts counts n nodes₀ nodes nfirsts₀ nfirsts ncounts₀ ncounts refusals₀ refusals i r)
+      (p : Fillable ops nums kinds firsts counts nodes₀ nfirsts₀ ncounts₀ refusals₀ n) where
     pub filled : n ≤ r → FilledRules ops nums kinds firsts counts nodes nfirsts ncounts refusals n
     filled h =
         let z : r ≡ n = omega (arith, u .below) in
@@ -198,7 +205,8 @@ module _ (ops nums kinds firsts counts : List ℕ) (n : ℕ) (nodes₀ nfirsts�
             in-refusals = omega (arith, w .few, u .refusals-same, p .in-refusals);
           }
 
-      module _ (nodes′ nfirsts′ ncounts′ refusals′ : List ℕ) (i′ : ℕ) (e : Entering ops nums (getD firsts r 0) (getD counts r 0) r i i′ nodes nodes′ nfirsts nfirsts′ ncounts ncounts′ refusals refusals′) where
+      module _ (nodes′ nfirsts′ ncounts′ refusals′ : List ℕ) (i′ : ℕ)
+          (e : Entering ops nums (getD firsts r 0) (getD counts r 0) r i i′ nodes nodes′ nfirsts nfirsts′ ncounts ncounts′ refusals refusals′) where
         the-first : Entered (p .rules r) r i i′ nodes nodes′ nfirsts nfirsts′ ncounts ncounts′ refusals refusals′
         the-first = e .is (p .rules r) (stands-at (p .held) r h)
 

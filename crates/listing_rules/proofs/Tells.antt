@@ -30,7 +30,9 @@ module _ (ops nums firsts counts nodes nfirsts ncounts refusals starts bits : Li
       compiled = zero-compiles (p .tabled) r (p .inside) e;
     }
 
-    pub told-compiled : (a : Alike) → Earlier ops nums firsts counts nodes nfirsts ncounts refusals r a → ToldRule ops nums firsts counts nodes nfirsts ncounts refusals starts bits r (Compiled (getD starts r 0) (getD bits r 0) a)
+    pub told-compiled :
+        (a : Alike) → Earlier ops nums firsts counts nodes nfirsts ncounts refusals r a
+        → ToldRule ops nums firsts counts nodes nfirsts ncounts refusals starts bits r (Compiled (getD starts r 0) (getD bits r 0) a)
     unfolding compilingOf
     told-compiled a w = record {
       is = λ R n t p h.

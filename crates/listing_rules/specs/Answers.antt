@@ -45,7 +45,9 @@ module _ (kinds nodes nfirsts ncounts refusals : List ℕ) (n : ℕ) where
     pub in-bits : bookRules ≤ length bits
 
   pub record Places (starts bits : List ℕ) : Type 0 where
-    pub is : (ops nums firsts counts : List ℕ) (R : ℕ → Rule) → Held ops nums kinds firsts counts R n → Tabled ops nums firsts counts nodes nfirsts ncounts refusals R n → Placed R n starts bits
+    pub is :
+        (ops nums firsts counts : List ℕ) (R : ℕ → Rule) → Held ops nums kinds firsts counts R n
+        → Tabled ops nums firsts counts nodes nfirsts ncounts refusals R n → Placed R n starts bits
 
 -- ---- a rule's line
 module _ (ops nums firsts counts nodes nfirsts ncounts refusals starts bits : List ℕ) where

@@ -36,7 +36,7 @@ use Rattle.listing_live.proofs.Splits.{Stood, formula-stands, live-answer, answ
 use Rattle.listing_live.proofs.OweLines.{owes-stand, OwesPure, owes-pure, owes-ready, owed-front}
 use Rattle.listing_nodes.specs.Rows as rows
 use Rattle.listing_rules.specs.Rules.{Rule, compiles, refusal, mon}
-use Rattle.listing_text.specs.Listing.{owesOf, nodesText, liveText, owesText}
+use Rattle.listing_head.specs.Head.{owesOf, nodesText, liveText, owesText}
 use Rattle.listing_section.specs.Section.{Split, SplitWrote, splitText, Owing, OwingWrote, Listable, Readied, NodesPut, RulePut}
 
 -- ---- `node` lines
@@ -58,7 +58,9 @@ module _ (ops nums nodes label : List ℕ) (kind first count nfirst ncount : ℕ
   pub nodes-ready : (f b : ℕ) (k : Alike) → Readied ops nums nodes label kind first count nfirst ncount c → c ≡ Compiled f b k → rows.Compiled ops nums nodes nfirst ncount
   nodes-ready f b k h p = record { first = first; count = count; mon = mon (h .rule); is = h .is .compiled (compiled-told (h .rule) f b k (h .is) p) }
 
-  pub nodes-wrote : (f b : ℕ) (k : Alike) (x y : Tape) → c ≡ Compiled f b k → rows.NodesWrote ops nums nodes nfirst ncount x y → NodesPut ops nums nodes label kind first count nfirst ncount c x y
+  pub nodes-wrote :
+      (f b : ℕ) (k : Alike) (x y : Tape) → c ≡ Compiled f b k → rows.NodesWrote ops nums nodes nfirst ncount x y
+      → NodesPut ops nums nodes label kind first count nfirst ncount c x y
   unfolding nodesText
   nodes-wrote f b k x y p w = record {
     is = λ q h.
@@ -88,7 +90,9 @@ module _ (ops nums : List ℕ) (first count : ℕ) where
   abbrev Both : Answer → List ℕ → List ℕ → Type 0
   Both x s o = Stood ops nums x s × Owes x o
 
-  first-both : (f : Formula) (s o xs : List ℕ) → faults f ≡ xs → RuleAt ops nums first count f → 512 ≤ length s → 768 ≤ length o → Both (firstOr xs (parts (skeletonOf f first 0) (obligationsOf f first))) s o
+  first-both :
+      (f : Formula) (s o xs : List ℕ) → faults f ≡ xs → RuleAt ops nums first count f → 512 ≤ length s → 768 ≤ length o
+      → Both (firstOr xs (parts (skeletonOf f first 0) (obligationsOf f first))) s o
   first-both f s o [] e r g h = (
     (formula-stands ops nums f first 0 (r .spells) (omega (arith, r .in-ops, r .covers)) (omega (arith, r .in-nums, r .covers)), omega (arith, entries-most f first 0, r .covers, r .few)),
     (owes-pure ops nums f first (r .spells) (omega (arith, r .in-ops, r .covers)) (omega (arith, r .in-nums, r .covers)) e, owes-stand ops nums f first (r .spells), omega (arith, owes-most f first, r .covers, r .few)),
@@ -104,11 +108,14 @@ module _ (ops nums : List ℕ) (first count : ℕ) where
   split-both false f s o r g h = property-both (live f) f s o r g h
 
   -- what the call of `split` leaves
-  split-held : (a : Bool) (f : Formula) (s o : List ℕ) → ruleOf ops nums first count ≡ some f → 1024 ≤ length ops → 1024 ≤ length nums → 512 ≤ length s → 768 ≤ length o → splitting ops nums first count a s o ≡ held (splitOf a f first) s o
+  split-held :
+      (a : Bool) (f : Formula) (s o : List ℕ) → ruleOf ops nums first count ≡ some f → 1024 ≤ length ops → 1024 ≤ length nums → 512 ≤ length s
+      → 768 ≤ length o → splitting ops nums first count a s o ≡ held (splitOf a f first) s o
   unfolding splitting
   split-held a f s o e p q g h = rw (e, le-leb _ _ p, le-leb _ _ q, le-leb _ _ g, le-leb _ _ h) refl
 
-  module _ (a : Bool) (r : Liveness) (s s′ o o′ : List ℕ) (k : Split ops nums first count) (e : outcome r s′ o′ ≡ splitting ops nums first count a s o) (g : 512 ≤ length s) (h : 768 ≤ length o) where
+  module _ (a : Bool) (r : Liveness) (s s′ o o′ : List ℕ) (k : Split ops nums first count)
+      (e : outcome r s′ o′ ≡ splitting ops nums first count a s o) (g : 512 ≤ length s) (h : 768 ≤ length o) where
     held-is : outcome r s′ o′ ≡ held (splitOf a (k .formula) first) s o
     held-is = e ∙ split-held a (k .formula) s o (k .is) (k .in-ops) (k .in-nums) g h
 
@@ -155,7 +162,9 @@ module _ (ops nums : List ℕ) (first count : ℕ) where
     pub owing-refused : (n : ℕ) (t : Tape) → r ≡ SplitRefused n → OwingWrote ops nums first count a t t
     owing-refused n t e = no-lines t (owed-refused (splitOf a (k .split .formula) first) n (k .s) (k .skeleton) (k .o) owed (subst (λ (y : Liveness). outcome y (k .skeleton) owed ≡ held (splitOf a (k .split .formula) first) (k .s) (k .o)) e (k .is)))
 
-    parts-owes : (m n : ℕ) (y : Answer) → outcome (Parts m n) (k .skeleton) owed ≡ held y (k .s) (k .o) → Owes y (k .o) → OwesReady ops nums owed n × ((z : Tape) (t : Tape) → OwesWrote ops nums owed n z t → Wrote z (joined (oweLines (owesOf y) 0)) t)
+    parts-owes :
+        (m n : ℕ) (y : Answer) → outcome (Parts m n) (k .skeleton) owed ≡ held y (k .s) (k .o) → Owes y (k .o)
+        → OwesReady ops nums owed n × ((z : Tape) (t : Tape) → OwesWrote ops nums owed n z t → Wrote z (joined (oweLines (owesOf y) 0)) t)
     parts-owes m n no-split e h = let z : _≡_ {A = ℕ} 0 1 = cc in absurd (omega arith)
     parts-owes m n (refused j) e h = let z : _≡_ {A = ℕ} 0 1 = cc in absurd (omega arith)
     parts-owes m n (parts sk os) e h =
@@ -165,7 +174,9 @@ module _ (ops nums : List ℕ) (first count : ℕ) where
         let l : owed ≡ owedCells os ++ rest = q ∙ owed-front ops nums os (k .o) (h .2) in
         (subst (OwesReady ops nums owed) (sym p) (owes-ready ops nums os owed rest l (h .0)), λ z t w. w .is os rest (sym p) l (h .1))
 
-    owing-parts : (m n : ℕ) → r ≡ Parts m n → OwesReady ops nums owed n × ((z : Tape) (t : Tape) → OwesWrote ops nums owed n z t → Wrote z (joined (oweLines (owesOf (splitOf a (k .split .formula) first)) 0)) t)
+    owing-parts :
+        (m n : ℕ) → r ≡ Parts m n
+        → OwesReady ops nums owed n × ((z : Tape) (t : Tape) → OwesWrote ops nums owed n z t → Wrote z (joined (oweLines (owesOf (splitOf a (k .split .formula) first)) 0)) t)
     owing-parts m n e =
         parts-owes m n (splitOf a (k .split .formula) first) (subst (λ (y : Liveness). outcome y (k .skeleton) owed ≡ held (splitOf a (k .split .formula) first) (k .s) (k .o)) e (k .is))
         (split-both a (k .split .formula) (k .s) (k .o) (rule-inv ops nums first count (k .split .formula) (k .split .is)) (k .wide) (k .room) .1)
@@ -183,7 +194,10 @@ module _ (ops nums nodes label : List ℕ) (kind first count nfirst ncount : ℕ
   pub split-asked : Readied ops nums nodes label kind first count nfirst ncount c → Split ops nums first count
   split-asked h = record { in-ops = h .is .in-ops; in-nums = h .is .in-nums; formula = h .rule .formula; is = h .is .formula-is }
 
-  pub section-wrote : (number : ℕ) (t : Bool) (w x y z : Tape) → Wrote w (ruleLine number label kind c) x → NodesPut ops nums nodes label kind first count nfirst ncount c x y → t ≡ bool.not (eqb kind 0) → SplitWrote ops nums first count t y z → RulePut ops nums nodes label number kind first count nfirst ncount c w z
+  pub section-wrote :
+      (number : ℕ) (t : Bool) (w x y z : Tape) → Wrote w (ruleLine number label kind c) x
+      → NodesPut ops nums nodes label kind first count nfirst ncount c x y → t ≡ bool.not (eqb kind 0) → SplitWrote ops nums first count t y z
+      → RulePut ops nums nodes label number kind first count nfirst ncount c w z
   unfolding liveText owesText
   section-wrote number t w x y z a b e d = record {
     is = λ q h.

@@ -17,10 +17,9 @@ use Rattle.text.specs.Tape.{Tape, Wrote, joined}
 use Rattle.listing_line.specs.declared.rule.Alike.{Alike}
 use Rattle.listing_line.specs.declared.rule.Compiling.{Compiling}
 use Rattle.listing_line.specs.declared.rule.Compiling.the-variants.{Compiled, Refused}
-use Rattle.listing_line.specs.Rule.{ruleLine}
 use Rattle.listing_live.specs.Live.{liveLine, oweLines}
 use Rattle.listing_rules.specs.Rules.{Rule, compiles, refusal, mon}
-use Rattle.listing_text.specs.Listing.{owesOf, nodesText, liveText, owesText}
+use Rattle.listing_head.specs.Head.{owesOf, nodesText, sectionText}
 
 -- ---- the split of a rule
 -- a rule's formula stands in a table with room
@@ -72,4 +71,4 @@ pub record NodesPut (ops nums nodes label : List ℕ) (kind first count nfirst n
   pub is : (q : Rule) → Listable ops nums nodes label kind first count nfirst ncount c q → Wrote before (nodesText q) after
 
 pub record RulePut (ops nums nodes label : List ℕ) (number kind first count nfirst ncount : ℕ) (c : Compiling) (before after : Tape) : Type 0 where
-  pub is : (q : Rule) → Listable ops nums nodes label kind first count nfirst ncount c q → Wrote before (ruleLine number (q .label) (q .kind) c ++ (nodesText q ++ (liveText q ++ owesText q))) after
+  pub is : (q : Rule) → Listable ops nums nodes label kind first count nfirst ncount c q → Wrote before (sectionText number q c) after

@@ -81,7 +81,9 @@ cell-long x l h k =
     let whole : length ((x ++ drop (length x) (take 32 l)) ++ drop 32 l) ≡ length l = cells-long (x ∷ []) l (h, tt) k in
     omega (arith, whole, length-append (x ++ drop (length x) (take 32 l)) (drop 32 l), length-drop 32 l)
 
-cells-at : (xs : List (List ℕ)) (l : List ℕ) (r : ℕ) → Short xs → r < length xs → 32 * length xs ≤ length l → take (length (getD xs r [])) (drop (32 * r) (cells xs l)) ≡ getD xs r []
+cells-at :
+    (xs : List (List ℕ)) (l : List ℕ) (r : ℕ) → Short xs → r < length xs → 32 * length xs ≤ length l
+    → take (length (getD xs r [])) (drop (32 * r) (cells xs l)) ≡ getD xs r []
 unfolding cells
 cells-at [] l r s h k = absurd (omega arith)
 cells-at (x ∷ xs) l zero s h k =
@@ -105,7 +107,9 @@ module _ (text : List ℕ) (t : BookTables) (b : Book) (e : readInto text t ≡ 
   sound : Sound b
   sound = done .sound
 
-  pub book-held : length (t .ops) ≡ 1024 → length (t .nums) ≡ 1024 → Held (written b t .ops) (written b t .nums) (written b t .kinds) (written b t .firsts) (written b t .counts) (ruleAt b) (length (b .labels))
+  pub book-held :
+      length (t .ops) ≡ 1024 → length (t .nums) ≡ 1024
+      → Held (written b t .ops) (written b t .nums) (written b t .kinds) (written b t .firsts) (written b t .counts) (ruleAt b) (length (b .labels))
   unfolding written ruleAt
   book-held o m =
       let s : Sound b = sound in

@@ -15,7 +15,8 @@ use Rattle.reader.proofs.Columns.{over-long}
 use Rattle.reader.proofs.Runs.{roomy-is}
 use Rattle.reader.proofs.StepsOfBook.{steps-of-book}
 use Rattle.book_laws.proofs.RuleLaws.{into-accepted}
-use Rattle.listing_text.specs.Listing.{ruleAt, rulesListing, refusedLine, listingOf, listing}
+use Rattle.listing_reports.specs.Tail.{refusedLine}
+use Rattle.listing_text.specs.Listing.{ruleAt, rulesListing, listingOf, listing}
 use Rattle.listing_size.specs.Handed.{Handed}
 use Rattle.listing_size.proofs.BookRules.{few-rules, book-held, len-held, label-held, label-inside, labels-long}
 

@@ -9,7 +9,10 @@ use lib.ListN.{length, getD, length-append}
 use Rattle.book.specs.Book.{Book, Outcome, accepted, refused, read}
 use Rattle.number.specs.Digits.{decimal}
 use Rattle.text.specs.Tape.{signed}
-use Rattle.listing_text.specs.Listing.{upto, ruleText, rulesText, freshStates, Report, reports, reportWord, reportLine, reportLines, endLine, rulesListing, ruleAt, refusedLine, listingOf, listing}
+use Rattle.listing_head.specs.Head.{upto, ruleText, rulesText}
+use Rattle.listing_reports.specs.Reports.{freshStates, Report, bookReports, kindsOf, endCount}
+use Rattle.listing_reports.specs.Tail.{reportWord, reportLine, reportLines, endLine, refusedLine}
+use Rattle.listing_text.specs.Listing.{rulesListing, ruleAt, listingOf, listing}
 use Rattle.listing_size.specs.Room.{listingRoom}
 use Rattle.listing_size.proofs.BookRules.{few-rules, few-nodes, book-size, book-label, book-next, book-inside}
 use Rattle.listing_size.proofs.TextSizes.{decimal-short, signed-short, line-long}
@@ -81,15 +84,16 @@ module _ (text : List ℕ) (b : Book) (e : read text ≡ accepted b) where
   unfolding rulesListing
   accepted-short =
       let n : ℕ = length (b .labels) in
-      let ps : List Report = reports (ruleAt b) n (freshStates (ruleAt b)) (b .steps) in
+      let ps : List Report = bookReports (ruleAt b) n (b .steps) in
+      let k : ℕ = endCount (kindsOf (ruleAt b)) ps in
       omega (
         arith,
-        length-append (rulesText (ruleAt b) n) (reportLines ps ++ endLine (length ps)),
-        length-append (reportLines ps) (endLine (length ps)),
+        length-append (rulesText (ruleAt b) n) (reportLines ps ++ endLine k),
+        length-append (reportLines ps) (endLine k),
         rules-short,
         reports-short ps,
-        end-short (length ps),
-        report-once (ruleAt b) n (freshStates (ruleAt b)) (b .steps),
+        end-short k,
+        report-once (ruleAt b) n (freshStates (ruleAt b)) 0 (b .steps),
         few-rules text b e,
       )
 

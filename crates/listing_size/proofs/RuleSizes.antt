@@ -34,7 +34,7 @@ use Rattle.listing_line.specs.declared.rule.Compiling.the-variants.{Compiled, R
 use Rattle.listing_live.specs.Live.{markText, marksText, liveWord, noneWord, oweWord, liveLine, oweLine, oweLines}
 use Rattle.listing_live.proofs.Entries.{marks-append}
 use Rattle.listing_rules.specs.Rules.{Rule, property, compiles, mon, compilingOf}
-use Rattle.listing_text.specs.Listing.{owesOf, nodesText, liveText, owesText, ruleText}
+use Rattle.listing_head.specs.Head.{owesOf, nodesText, liveText, owesText, ruleText}
 use Rattle.listing_size.proofs.TextSizes.{decimal-short, line-long, joined-one, joined-more, joined-both, spell-short, signs-short, operand-short}
 
 -- ---- the `rule` line
@@ -116,7 +116,9 @@ check-short : (c : Check) (k n : ℕ) → length (lineOf k (checkFields c)) ≤ 
 unfolding nodeLines
 check-short c k n h = omega (arith, joined-one (lineOf k (checkFields c)))
 
-pair-short : (form k : ℕ) (a b : List (List ℕ)) (x y : ℕ) → length (joined a) ≤ 67 * x + 29 → length (joined b) ≤ 67 * y + 29 → length (joined (lineOf k (joinFields form) ∷ a ++ b)) ≤ 67 * (1 + x + y) + 29
+pair-short :
+    (form k : ℕ) (a b : List (List ℕ)) (x y : ℕ) → length (joined a) ≤ 67 * x + 29 → length (joined b) ≤ 67 * y + 29
+    → length (joined (lineOf k (joinFields form) ∷ a ++ b)) ≤ 67 * (1 + x + y) + 29
 pair-short form k a b x y p q = omega (arith, joined-more (lineOf k (joinFields form)) (a ++ b), join-line k form, joined-both a b)
 
 nodes-short : (f : Formula) (i : ℕ) (r : AnchorRange) (t : Bool) (k : ℕ) → length (joined (nodeLines (node f i r t) k)) ≤ 67 * size f + 29
@@ -145,7 +147,9 @@ owed-short : (k n : ℕ) → 2 ≤ n → length (marksText (skeletonText (owed k
 unfolding skeletonText marksText
 owed-short k n h = omega (arith, marks-more (byte 35) (number k ∷ []), marks-more (number k) [], decimal-short k)
 
-word-short : (b : ℕ) (s t : List Mark) (x y : ℕ) → length (marksText s) ≤ 12 * x + 10 → length (marksText t) ≤ 12 * y + 10 → length (marksText (byte b ∷ s ++ t)) ≤ 12 * (1 + x + y) + 10
+word-short :
+    (b : ℕ) (s t : List Mark) (x y : ℕ) → length (marksText s) ≤ 12 * x + 10 → length (marksText t) ≤ 12 * y + 10
+    → length (marksText (byte b ∷ s ++ t)) ≤ 12 * (1 + x + y) + 10
 word-short b s t x y p q = omega (arith, marks-more (byte b) (s ++ t), marks-both s t)
 
 skeleton-short : (f : Formula) (i k : ℕ) → length (marksText (skeletonText (skeletonOf f i k))) ≤ 12 * size f + 10

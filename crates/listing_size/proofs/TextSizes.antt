@@ -73,7 +73,9 @@ spelled-both : (s t : List Sign) → length (spelled (s ++ t)) ≡ length (spell
 spelled-both s t = ap length (spelled-append s t) ∙ length-append (spelled s) (spelled t)
 
 module _ (imp : List Sign) (small : length (spelled imp) ≤ 2) where
-  joined-short : (s a b : List Sign) (m n : ℕ) → length (spelled s) ≤ 2 → length (spelled a) ≤ 21 * m → length (spelled b) ≤ 21 * n → length (spelled (s ++ a ++ b)) ≤ 21 * (1 + m + n)
+  joined-short :
+      (s a b : List Sign) (m n : ℕ) → length (spelled s) ≤ 2 → length (spelled a) ≤ 21 * m → length (spelled b) ≤ 21 * n
+      → length (spelled (s ++ a ++ b)) ≤ 21 * (1 + m + n)
   joined-short s a b m n h p q = omega (arith, spelled-both (s ++ a) b, spelled-both s a)
 
   text-short : (f : Formula) → length (spelled (signsBy imp f)) ≤ 21 * size f

@@ -29,13 +29,16 @@ use Rattle.listing_line.specs.Node.{nodeLines}
 use Rattle.listing_line.specs.Rule as lines
 use Rattle.listing_live.specs.Live.{marksText, liveLine, oweLine, oweLines}
 use Rattle.listing_rules.specs.Rules.{compiles, refusal, mon, firstBitOf, likeOf, firstBelow, compilingOf}
-use Rattle.listing_text.specs.Listing.{upto, nodesText, liveText, owesText, ruleText, rulesText, breaks, reportOf, reportsAt, reports, reportLine, reportLines, endLine, rulesListing, ruleAt, refusedLine, listing}
+use Rattle.listing_head.specs.Head.{upto, nodesText, liveText, owesText, ruleText, rulesText}
+use Rattle.listing_reports.specs.Reports.{breaks, reportOf, reportsAt, reports, endCount}
+use Rattle.listing_reports.specs.Tail.{reportLine, reportLines, endLine, refusedLine}
+use Rattle.listing_text.specs.Listing.{rulesListing, ruleAt, listing}
 use Rattle.listing_size.specs.Worked.{Lists, AllList, whole, others}
 
 pub whole-case : Lists whole
-unfolding digitOf below places valueIn plain decimalOf hexOf onto parts eqbs lookup wordOf fieldCount printable isLabel kindOf ruleKind ruleLine atomLine boundLine stepLine content ofFields parse stands labelled numbered lastOf within passes firstFault fault bump spend add readOn ended read size depth all push forest treeOf run node nodeAt ruleOf pure value signsBy compile.faults compile.consequent compile.node compile.implication bitsBelow pieces total halvings width split.live truth unfailedStep obligationStep checkStep step digits joined signed spelled line nodeLines lines.ruleLine liveLine oweLines compiles mon firstBitOf firstBelow compilingOf upto nodesText liveText owesText ruleText rulesText breaks reportOf reportsAt reports reportLine reportLines endLine rulesListing ruleAt listing
+unfolding digitOf below places valueIn plain decimalOf hexOf onto parts eqbs lookup wordOf fieldCount printable isLabel kindOf ruleKind ruleLine atomLine boundLine stepLine content ofFields parse stands labelled numbered lastOf within passes firstFault fault bump spend add readOn ended read size depth all push forest treeOf run node nodeAt ruleOf pure value signsBy compile.faults compile.consequent compile.node compile.implication bitsBelow pieces total halvings width split.live truth unfailedStep obligationStep checkStep step digits joined signed spelled line nodeLines lines.ruleLine liveLine oweLines compiles mon firstBitOf firstBelow compilingOf upto nodesText liveText owesText ruleText rulesText breaks reportOf reportsAt reports endCount reportLine reportLines endLine rulesListing ruleAt listing
 whole-case = refl
 
 pub worked-listings : AllList others
-unfolding digitOf below places valueIn plain decimalOf hexOf onto parts eqbs lookup wordOf fieldCount printable isLabel kindOf ruleKind ruleLine atomLine boundLine stepLine content ofFields parse stands labelled numbered lastOf within passes firstFault fault bump spend add readOn ended read size depth all push forest treeOf run node nodeAt ruleOf pure value signsBy compile.faults compile.consequent compile.node compile.implication bitsBelow pieces total halvings width split.live truth unfailedStep obligationStep checkStep step digits joined signed spelled line nodeLines lines.ruleLine liveLine oweLines compiles mon firstBitOf firstBelow compilingOf upto nodesText liveText owesText ruleText rulesText breaks reportOf reportsAt reports reportLine reportLines endLine rulesListing ruleAt listing agree count alikeMon split.faults split.skeletonOf split.obligationsOf skeletonText joinedStep marksText oweLine refusal likeOf refusedLine
+unfolding digitOf below places valueIn plain decimalOf hexOf onto parts eqbs lookup wordOf fieldCount printable isLabel kindOf ruleKind ruleLine atomLine boundLine stepLine content ofFields parse stands labelled numbered lastOf within passes firstFault fault bump spend add readOn ended read size depth all push forest treeOf run node nodeAt ruleOf pure value signsBy compile.faults compile.consequent compile.node compile.implication bitsBelow pieces total halvings width split.live truth unfailedStep obligationStep checkStep step digits joined signed spelled line nodeLines lines.ruleLine liveLine oweLines compiles mon firstBitOf firstBelow compilingOf upto nodesText liveText owesText ruleText rulesText breaks reportOf reportsAt reports endCount reportLine reportLines endLine rulesListing ruleAt listing agree count alikeMon split.faults split.skeletonOf split.obligationsOf skeletonText joinedStep marksText oweLine refusal likeOf refusedLine
 worked-listings = (refl, (refl, (refl, (refl, (refl, (refl, tt))))))

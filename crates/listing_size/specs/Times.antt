@@ -3,7 +3,7 @@ use mathlib.Core.List.{List, [], _∷_}
 use Prim.Native.Nat.{ℕ, _+_}
 use lib.Dec.{eqb}
 use Rattle.terms.specs.Choice.{pick}
-use Rattle.listing_text.specs.Listing.{Report}
+use Rattle.listing_reports.specs.Reports.{Report}
 
 abbrev pub timesOf : ℕ → List Report → ℕ
 timesOf r [] = 0

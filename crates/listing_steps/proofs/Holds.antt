@@ -66,7 +66,9 @@ shaped-culprit (Or m n) mem k h = from-culprit (get mem k .culprit) (h .kept .2)
 module _ (ops nums nodes : List ℕ) (mem : Memory) (k s w : ℕ) where
   module _ (mem′ : Memory) (o : NodeOut) (g : NodeStepped ops nums nodes 0 mem k s w mem′ o) where
     -- the memory and the mark after the walk
-    walked : (m : Mon) → NodesAt ops nums nodes k m → ShapedAt m mem k → Inside mem (k + count m) → (mem′ ≡ writeMon m (step m (readMon m mem k) s w .state) mem k) × (get mem′ k .failed ≡ failed m (step m (readMon m mem k) s w .state))
+    walked :
+        (m : Mon) → NodesAt ops nums nodes k m → ShapedAt m mem k → Inside mem (k + count m)
+        → (mem′ ≡ writeMon m (step m (readMon m mem k) s w .state) mem k) × (get mem′ k .failed ≡ failed m (step m (readMon m mem k) s w .state))
     walked m a h d =
         let z : k ≡ 0 + k = omega arith in
         let e : mem′ ≡ writeMon m (step m (readMon m mem k) s w .state) mem k = g .is m (subst (λ (i : ℕ). NodesAt ops nums nodes i m) z a) h d .2 in

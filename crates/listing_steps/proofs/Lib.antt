@@ -1,5 +1,4 @@
 -- The laws of stepping a book's rules.
-pub mod Refusals
 pub mod Holds
 pub mod Turns
 pub mod Lines

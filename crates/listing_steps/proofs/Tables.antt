@@ -21,12 +21,14 @@ use Rattle.stepping.proofs.Starting.{clear-entry, fresh-reads, fresh-blameless}
 use Rattle.text.specs.Tape.{Tape}
 use Rattle.listing_rules.specs.Rules.{Rule, compiles, mon}
 use Rattle.listing_rules.specs.Tabled.{Tabled}
-use Rattle.listing_text.specs.Listing.{freshStates}
+use Rattle.listing_reports.specs.Reports.{freshStates}
 use Rattle.listing_steps.specs.Holding.{Rows, Holding}
 use Rattle.listing_steps.specs.Stepped.{LinesDue, LinesStepped, StepsDue, StepsReported}
 
 -- ---- the rows
-pub tabled-rows : (ops nums firsts counts nodes nfirsts ncounts refusals : List ℕ) (R : ℕ → Rule) (n : ℕ) → Tabled ops nums firsts counts nodes nfirsts ncounts refusals R n → Rows ops nums nodes nfirsts refusals R n
+pub tabled-rows :
+    (ops nums firsts counts nodes nfirsts ncounts refusals : List ℕ) (R : ℕ → Rule) (n : ℕ)
+    → Tabled ops nums firsts counts nodes nfirsts ncounts refusals R n → Rows ops nums nodes nfirsts refusals R n
 tabled-rows ops nums firsts counts nodes nfirsts ncounts refusals R n t = record {
   few = t .few;
   in-nfirsts = omega (arith, t .few, t .in-nfirsts);
@@ -82,7 +84,9 @@ module _ (n : ℕ) where
   blanks-shaped : (m : Mon) (k : ℕ) → k + count m ≤ n → ShapedAt m (blanks n) k
   blanks-shaped m k h = record { blameless = blanks-blameless m k h; kept = subst (WellShaped m) (sym (blanks-read m k h)) (fresh-shaped m) }
 
-pub fresh-held : (ops nums nodes nfirsts refusals : List ℕ) (R : ℕ → Rule) (n size : ℕ) → Rows ops nums nodes nfirsts refusals R n → 1024 ≤ size → Holding nfirsts R n (freshStates R) (blanks size)
+pub fresh-held :
+    (ops nums nodes nfirsts refusals : List ℕ) (R : ℕ → Rule) (n size : ℕ) → Rows ops nums nodes nfirsts refusals R n → 1024 ≤ size
+    → Holding nfirsts R n (freshStates R) (blanks size)
 fresh-held ops nums nodes nfirsts refusals R n size u h = record {
   inside = inside-less (blanks size) 1024 size h (blanks-inside size);
   rule = λ r l c. record {
@@ -103,7 +107,9 @@ module _ (text : List ℕ) (from : ℕ) (ops nums nodes nfirsts refusals : List 
     short = d .short;
   }
 
-  pub fresh-reported : (a b : Tape) (mem : Memory) (written : ℕ) → LinesStepped text from ops nums nodes nfirsts refusals n (blanks 1280) a mem b written → StepsReported text from ops nums nodes nfirsts refusals n a b written
+  pub fresh-reported :
+      (a b : Tape) (mem : Memory) (written : ℕ) → LinesStepped text from ops nums nodes nfirsts refusals n (blanks 1280) a mem b written
+      → StepsReported text from ops nums nodes nfirsts refusals n a b written
   fresh-reported a b mem written l = record {
     wrote = λ R u. l .wrote R (freshStates R) u (fresh-held ops nums nodes nfirsts refusals R n 1280 u (omega arith));
     counted = λ R u. l .counted R (freshStates R) u (fresh-held ops nums nodes nfirsts refusals R n 1280 u (omega arith));

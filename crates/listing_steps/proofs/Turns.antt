@@ -12,7 +12,7 @@ use lib.IntN.{ℤ, pos}
 use lib.ListN.{length, getD}
 use borrow.Author.Tests.{lt-ltb, le-ltb}
 use Rattle.terms.specs.Choice.{pick}
-use Rattle.formula.proofs.Cases.{below-or}
+use Rattle.formula.proofs.Cases.{below-or, true-false}
 use Rattle.monitor.specs.Mon.{Mon, count}
 use Rattle.meaning.specs.State.{State, step, newlyFailed, culprit}
 use Rattle.node_step.specs.Memory.{Memory, get, Inside}
@@ -24,11 +24,12 @@ use Rattle.book.specs.Book.{StepLine}
 use Rattle.text.specs.Tape.{Tape, Wrote, Culprit}
 use Rattle.text.proofs.Tapes.{as-text, append-nil, nothing}
 use Rattle.listing_rules.specs.Rules.{Rule, compiles, mon}
-use Rattle.listing_text.specs.Listing.{States, nextStates, breaks, reportOf, reportLine, reportLines}
+use Rattle.listing_rules.proofs.Refusals.{zero-is-none, other-is-one}
+use Rattle.listing_reports.specs.Reports.{States, nextStates, breaks, reportOf}
+use Rattle.listing_reports.specs.Tail.{reportLine, reportLines}
 use Rattle.listing_report.specs.Written.{ReportWrote}
 use Rattle.listing_steps.specs.Holding.{Rows, HoldsState, Holding}
 use Rattle.listing_steps.specs.Stepped.{lineOf, stepped, reportIf, RuleStepped, Due, OneStepped}
-use Rattle.listing_steps.proofs.Refusals.{zero-compiles, some-refuses}
 use Rattle.listing_steps.proofs.Holds.{holds-same, holds-step, holds-culprit, holds-newly, shaped-culprit}
 
 -- ---- the states while a step line is in hand
@@ -57,9 +58,6 @@ module _ (ops nums nodes nfirsts refusals : List ℕ) (n r : ℕ) (mem : Memory)
     refused-next : compiles (R r) ≡ false → Holding nfirsts R n (stepped R st x (r + 1)) mem
     refused-next f = record { inside = v .inside; rule = go }
       where
-        not-both : {B : Type 0} (b : Bool) → b ≡ true → b ≡ false → B
-        not-both b p q = let z : _≡_ {A = ℕ} 0 1 = cc in absurd (omega arith)
-
         go : (q : ℕ) → q < n → compiles (R q) ≡ true → HoldsState (mon (R q)) (getD nfirsts q 0) (stepped R st x (r + 1) q) mem
         go q l c = ⊎-elim
             (λ (a : q < r). subst (λ (z : State (mon (R q))). HoldsState (mon (R q)) (getD nfirsts q 0) z mem) (step-below R st x r q a ∙ sym (step-below R st x (r + 1) q (omega arith))) (v .rule q l c))
@@ -67,7 +65,7 @@ module _ (ops nums nodes nfirsts refusals : List ℕ) (n r : ℕ) (mem : Memory)
             (λ (b : r < q). subst (λ (z : State (mon (R q))). HoldsState (mon (R q)) (getD nfirsts q 0) z mem) (step-from R st x r q a ∙ sym (step-from R st x (r + 1) q (omega arith))) (v .rule q l c))
             (λ (b : q ≤ r).
             let e : q ≡ r = omega arith in
-            not-both (compiles (R r)) (subst (λ (i : ℕ). compiles (R i) ≡ true) e c) f)
+            true-false (subst (λ (i : ℕ). compiles (R i) ≡ true) e c) f)
             (below-or r q))
             (below-or q r)
 
@@ -131,45 +129,45 @@ module _ (ops nums nodes nfirsts refusals : List ℕ) (n r : ℕ) (mem : Memory)
                 (below-or q r)
 
         -- the report's line
-        reported : (a b : Tape) → broken ≡ true → ReportWrote s r (get mem′ k .culprit) a b → Wrote a (reportLines (reportIf R st x r)) b
+        reported : (i : ℕ) (a b : Tape) → broken ≡ true → ReportWrote s r (get mem′ k .culprit) a b → Wrote a (reportLines (reportIf R st i x r)) b
         unfolding reportOf reportLines
-        reported a b f p =
-            let t : Wrote a (reportLine (reportOf R st x r)) b = p .is (reportOf R st x r) refl refl (sym (holds-culprit m k (nextStates R st x r) mem′ own-next)) in
-            as-text a b (ap (λ (y : Bool). reportLines (pick y (reportOf R st x r ∷ []) [])) (sym is-broken ∙ f) ∙ append-nil (reportLine (reportOf R st x r))) t
+        reported i a b f p =
+            let t : Wrote a (reportLine (reportOf R st i x r)) b = p .is (reportOf R st i x r) refl refl (sym (holds-culprit m k (nextStates R st x r) mem′ own-next)) in
+            as-text a b (ap (λ (y : Bool). reportLines (pick y (reportOf R st i x r ∷ []) [])) (sym is-broken ∙ f) ∙ append-nil (reportLine (reportOf R st i x r))) t
 
-        reported-one : broken ≡ true → 1 ≡ length (reportIf R st x r)
-        reported-one f = sym (ap (λ (y : Bool). length (pick y (reportOf R st x r ∷ []) [])) (sym is-broken ∙ f))
+        reported-one : (i : ℕ) → broken ≡ true → 1 ≡ length (reportIf R st i x r)
+        reported-one i f = sym (ap (λ (y : Bool). length (pick y (reportOf R st i x r ∷ []) [])) (sym is-broken ∙ f))
 
-        unreported : (a : Tape) → broken ≡ false → Wrote a (reportLines (reportIf R st x r)) a
+        unreported : (i : ℕ) (a : Tape) → broken ≡ false → Wrote a (reportLines (reportIf R st i x r)) a
         unfolding reportLines
-        unreported a f = as-text a a (ap (λ (y : Bool). reportLines (pick y (reportOf R st x r ∷ []) [])) (sym is-broken ∙ f)) (nothing a)
+        unreported i a f = as-text a a (ap (λ (y : Bool). reportLines (pick y (reportOf R st i x r ∷ []) [])) (sym is-broken ∙ f)) (nothing a)
 
-        unreported-none : broken ≡ false → 0 ≡ length (reportIf R st x r)
-        unreported-none f = sym (ap (λ (y : Bool). length (pick y (reportOf R st x r ∷ []) [])) (sym is-broken ∙ f))
+        unreported-none : (i : ℕ) → broken ≡ false → 0 ≡ length (reportIf R st i x r)
+        unreported-none i f = sym (ap (λ (y : Bool). length (pick y (reportOf R st i x r ∷ []) [])) (sym is-broken ∙ f))
 
     -- of a rule that does not compile nothing is reported
-    refused-nothing : (a : Tape) → compiles (R r) ≡ false → Wrote a (reportLines (reportIf R st x r)) a
+    refused-nothing : (i : ℕ) (a : Tape) → compiles (R r) ≡ false → Wrote a (reportLines (reportIf R st i x r)) a
     unfolding breaks reportLines
-    refused-nothing a f = as-text a a (ap (λ (y : Bool). reportLines (pick (y && newlyFailed m (st r) s w) (reportOf R st x r ∷ []) [])) f) (nothing a)
+    refused-nothing i a f = as-text a a (ap (λ (y : Bool). reportLines (pick (y && newlyFailed m (st r) s w) (reportOf R st i x r ∷ []) [])) f) (nothing a)
 
-    refused-none : compiles (R r) ≡ false → 0 ≡ length (reportIf R st x r)
+    refused-none : (i : ℕ) → compiles (R r) ≡ false → 0 ≡ length (reportIf R st i x r)
     unfolding breaks
-    refused-none f = sym (ap (λ (y : Bool). length (pick (y && newlyFailed m (st r) s w) (reportOf R st x r ∷ []) [])) f)
+    refused-none i f = sym (ap (λ (y : Bool). length (pick (y && newlyFailed m (st r) s w) (reportOf R st i x r ∷ []) [])) f)
 
   -- ---- the test on the refusal
   does : (R : ℕ → Rule) → Rows ops nums nodes nfirsts refusals R n → r < n → getD refusals r 0 ≡ 0 → compiles (R r) ≡ true
-  does R u h z = zero-compiles (R r) (sym (u .refused r h) ∙ z)
+  does R u h z = zero-is-none (R r) (sym (u .refused r h) ∙ z)
 
   does-not : (R : ℕ → Rule) → Rows ops nums nodes nfirsts refusals R n → r < n → (getD refusals r 0 ≡ 0 → ⊥) → compiles (R r) ≡ false
-  does-not R u h z = some-refuses (R r) (λ e. z (u .refused r h ∙ e))
+  does-not R u h z = other-is-one (R r) (λ e. z (u .refused r h ∙ e))
 
   -- ---- the three ways of a turn
   pub turn-refused : (a : Tape) → Due ops nums nodes nfirsts refusals n r mem s w → (getD refusals r 0 ≡ 0 → ⊥) → OneStepped ops nums nodes nfirsts refusals n r mem s w a mem a 0
   turn-refused a d z = record {
     few = omega arith;
     holding = λ R st u v. refused-next R st u v (d .inside) (does-not R u (d .inside) z);
-    wrote = λ R st u v. refused-nothing R st u v (d .inside) a (does-not R u (d .inside) z);
-    counted = λ R st u v. refused-none R st u v (d .inside) (does-not R u (d .inside) z);
+    wrote = λ R st i u v. refused-nothing R st u v (d .inside) i a (does-not R u (d .inside) z);
+    counted = λ R st i u v. refused-none R st u v (d .inside) i (does-not R u (d .inside) z);
   }
 
   module _ (d : Due ops nums nodes nfirsts refusals n r mem s w) (z : getD refusals r 0 ≡ 0) where
@@ -193,20 +191,22 @@ module _ (ops nums nodes nfirsts refusals : List ℕ) (n r : ℕ) (mem : Memory)
           let o = own-next (d .rules) (d .states) (d .rows) (d .holding) (d .inside) (does (d .rules) (d .rows) (d .inside) z) mem′ broken g in
           shaped-culprit (mon (d .rules r)) mem′ (getD nfirsts r 0) (o .shaped)
 
-      pub turn-broken : (a b : Tape) → broken ≡ true → SFits w64 blamed → ReportWrote s r (toZ w64 (ofZ w64 blamed)) a b → OneStepped ops nums nodes nfirsts refusals n r mem s w a mem′ b 1
+      pub turn-broken :
+          (a b : Tape) → broken ≡ true → SFits w64 blamed → ReportWrote s r (toZ w64 (ofZ w64 blamed)) a b
+          → OneStepped ops nums nodes nfirsts refusals n r mem s w a mem′ b 1
       turn-broken a b f o p′ =
           let p : ReportWrote s r blamed a b = subst (λ (z : ℤ). ReportWrote s r z a b) (toZ-ofZ o) p′ in
           record {
             few = omega arith;
             holding = λ R st u v. stepped-next R st u v (d .inside) (does R u (d .inside) z) mem′ broken g;
-            wrote = λ R st u v. reported R st u v (d .inside) (does R u (d .inside) z) mem′ broken g a b f p;
-            counted = λ R st u v. reported-one R st u v (d .inside) (does R u (d .inside) z) mem′ broken g f;
+            wrote = λ R st i u v. reported R st u v (d .inside) (does R u (d .inside) z) mem′ broken g i a b f p;
+            counted = λ R st i u v. reported-one R st u v (d .inside) (does R u (d .inside) z) mem′ broken g i f;
           }
 
       pub turn-kept : (a : Tape) → broken ≡ false → OneStepped ops nums nodes nfirsts refusals n r mem s w a mem′ a 0
       turn-kept a f = record {
         few = omega arith;
         holding = λ R st u v. stepped-next R st u v (d .inside) (does R u (d .inside) z) mem′ broken g;
-        wrote = λ R st u v. unreported R st u v (d .inside) (does R u (d .inside) z) mem′ broken g a f;
-        counted = λ R st u v. unreported-none R st u v (d .inside) (does R u (d .inside) z) mem′ broken g f;
+        wrote = λ R st i u v. unreported R st u v (d .inside) (does R u (d .inside) z) mem′ broken g i a f;
+        counted = λ R st i u v. unreported-none R st u v (d .inside) (does R u (d .inside) z) mem′ broken g i f;
       }

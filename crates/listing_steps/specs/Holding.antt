@@ -13,7 +13,7 @@ use Rattle.node_step.specs.Memory.{Memory, Inside}
 use Rattle.lent.specs.Nodes.{NodesAt}
 use Rattle.stepping.specs.Walk.{ShapedAt, readMon}
 use Rattle.listing_rules.specs.Rules.{Rule, compiles, refusal, mon}
-use Rattle.listing_text.specs.Listing.{States}
+use Rattle.listing_reports.specs.Reports.{States}
 
 -- the first n rules of R: refusal 0 where a rule compiles, and then its rows, no two rules sharing one
 pub record Rows (ops nums nodes nfirsts refusals : List ℕ) (R : ℕ → Rule) (n : ℕ) : Type 0 where

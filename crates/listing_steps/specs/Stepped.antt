@@ -16,7 +16,8 @@ use Rattle.book.specs.Book.{StepLine}
 use Rattle.reader.specs.Steps.{stepsFrom}
 use Rattle.text.specs.Tape.{Tape, Wrote}
 use Rattle.listing_rules.specs.Rules.{Rule}
-use Rattle.listing_text.specs.Listing.{States, freshStates, nextStates, Report, breaks, reportOf, reportsAt, reports, reportLines}
+use Rattle.listing_reports.specs.Reports.{States, nextStates, Report, breaks, reportOf, reportsAt, reports, bookReports, kindsOf, endCount}
+use Rattle.listing_reports.specs.Tail.{reportLines}
 use Rattle.listing_steps.specs.Holding.{Rows, Holding}
 
 abbrev pub lineOf : ℕ → ℕ → StepLine
@@ -26,15 +27,17 @@ lineOf s w = record { number = s; truths = w }
 unfoldable pub stepped : (R : ℕ → Rule) → States R → StepLine → ℕ → States R
 stepped R st x r q = pick (ltb q r) (nextStates R st x q) (st q)
 
--- the report of rule r at a step line, if it is newly broken there
-abbrev pub reportIf : (R : ℕ → Rule) → States R → StepLine → ℕ → List Report
-reportIf R st x r = pick (breaks R st x r) (reportOf R st x r ∷ []) []
+-- the report of rule r at the step line at place i, if it is newly broken there
+abbrev pub reportIf : (R : ℕ → Rule) → States R → ℕ → StepLine → ℕ → List Report
+reportIf R st i x r = pick (breaks R st x r) (reportOf R st i x r ∷ []) []
 
 -- ---- one monitor, its root at entry k: whether it is newly failed, and the memory afterwards
 pub record RuleStepped (ops nums nodes : List ℕ) (mem : Memory) (k s w : ℕ) (mem′ : Memory) (broken : Bool) : Type 0 where
-  pub is : (m : Mon) → NodesAt ops nums nodes k m → ShapedAt m mem k → Inside mem (k + count m) → (broken ≡ newlyFailed m (readMon m mem k) s w) × (mem′ ≡ writeMon m (step m (readMon m mem k) s w .state) mem k)
+  pub is :
+      (m : Mon) → NodesAt ops nums nodes k m → ShapedAt m mem k → Inside mem (k + count m)
+      → (broken ≡ newlyFailed m (readMon m mem k) s w) × (mem′ ≡ writeMon m (step m (readMon m mem k) s w .state) mem k)
 
--- ---- rule r at a step line
+-- ---- rule r at a step line, which may stand at any place
 pub record Due (ops nums nodes nfirsts refusals : List ℕ) (n r : ℕ) (mem : Memory) (s w : ℕ) : Type 0 where
   pub rules : ℕ → Rule
   pub states : States rules
@@ -43,11 +46,18 @@ pub record Due (ops nums nodes nfirsts refusals : List ℕ) (n r : ℕ) (mem : M
   pub inside : r < n
   pub below : s < 9223372036854775808
 
-pub record OneStepped (ops nums nodes nfirsts refusals : List ℕ) (n r : ℕ) (mem : Memory) (s w : ℕ) (before : Tape) (mem′ : Memory) (after : Tape) (written : ℕ) : Type 0 where
+pub record OneStepped (ops nums nodes nfirsts refusals : List ℕ) (n r : ℕ) (mem : Memory) (s w : ℕ) (before : Tape) (mem′ : Memory)
+    (after : Tape) (written : ℕ) : Type 0 where
   pub few : written ≤ 1
-  pub holding : (R : ℕ → Rule) (st : States R) → Rows ops nums nodes nfirsts refusals R n → Holding nfirsts R n (stepped R st (lineOf s w) r) mem → Holding nfirsts R n (stepped R st (lineOf s w) (r + 1)) mem′
-  pub wrote : (R : ℕ → Rule) (st : States R) → Rows ops nums nodes nfirsts refusals R n → Holding nfirsts R n (stepped R st (lineOf s w) r) mem → Wrote before (reportLines (reportIf R st (lineOf s w) r)) after
-  pub counted : (R : ℕ → Rule) (st : States R) → Rows ops nums nodes nfirsts refusals R n → Holding nfirsts R n (stepped R st (lineOf s w) r) mem → written ≡ length (reportIf R st (lineOf s w) r)
+  pub holding :
+      (R : ℕ → Rule) (st : States R) → Rows ops nums nodes nfirsts refusals R n → Holding nfirsts R n (stepped R st (lineOf s w) r) mem
+      → Holding nfirsts R n (stepped R st (lineOf s w) (r + 1)) mem′
+  pub wrote :
+      (R : ℕ → Rule) (st : States R) (i : ℕ) → Rows ops nums nodes nfirsts refusals R n → Holding nfirsts R n (stepped R st (lineOf s w) r) mem
+      → Wrote before (reportLines (reportIf R st i (lineOf s w) r)) after
+  pub counted :
+      (R : ℕ → Rule) (st : States R) (i : ℕ) → Rows ops nums nodes nfirsts refusals R n → Holding nfirsts R n (stepped R st (lineOf s w) r) mem
+      → written ≡ length (reportIf R st i (lineOf s w) r)
 
 -- ---- all rules at a step line
 pub record LineDue (ops nums nodes nfirsts refusals : List ℕ) (n : ℕ) (mem : Memory) (s : ℕ) : Type 0 where
@@ -57,11 +67,18 @@ pub record LineDue (ops nums nodes nfirsts refusals : List ℕ) (n : ℕ) (mem :
   pub holding : Holding nfirsts rules n states mem
   pub below : s < 9223372036854775808
 
-pub record LineStepped (ops nums nodes nfirsts refusals : List ℕ) (n : ℕ) (mem : Memory) (s w : ℕ) (before : Tape) (mem′ : Memory) (after : Tape) (written : ℕ) : Type 0 where
+pub record LineStepped (ops nums nodes nfirsts refusals : List ℕ) (n : ℕ) (mem : Memory) (s w : ℕ) (before : Tape) (mem′ : Memory)
+    (after : Tape) (written : ℕ) : Type 0 where
   pub few : written ≤ bookRules
-  pub holding : (R : ℕ → Rule) (st : States R) → Rows ops nums nodes nfirsts refusals R n → Holding nfirsts R n st mem → Holding nfirsts R n (nextStates R st (lineOf s w)) mem′
-  pub wrote : (R : ℕ → Rule) (st : States R) → Rows ops nums nodes nfirsts refusals R n → Holding nfirsts R n st mem → Wrote before (reportLines (reportsAt R st (lineOf s w) n)) after
-  pub counted : (R : ℕ → Rule) (st : States R) → Rows ops nums nodes nfirsts refusals R n → Holding nfirsts R n st mem → written ≡ length (reportsAt R st (lineOf s w) n)
+  pub holding :
+      (R : ℕ → Rule) (st : States R) → Rows ops nums nodes nfirsts refusals R n → Holding nfirsts R n st mem
+      → Holding nfirsts R n (nextStates R st (lineOf s w)) mem′
+  pub wrote :
+      (R : ℕ → Rule) (st : States R) (i : ℕ) → Rows ops nums nodes nfirsts refusals R n → Holding nfirsts R n st mem
+      → Wrote before (reportLines (reportsAt R st i (lineOf s w) n)) after
+  pub counted :
+      (R : ℕ → Rule) (st : States R) (i : ℕ) → Rows ops nums nodes nfirsts refusals R n → Holding nfirsts R n st mem
+      → written ≡ length (reportsAt R st i (lineOf s w) n)
 
 -- ---- all step lines of a text from a place on; a book has at most 65,535 bytes
 -- the states after some step lines
@@ -76,10 +93,17 @@ pub record LinesDue (text ops nums nodes nfirsts refusals : List ℕ) (n : ℕ) 
   pub holding : Holding nfirsts rules n states mem
   pub short : length text ≤ bookBytes
 
-pub record LinesStepped (text : List ℕ) (from : ℕ) (ops nums nodes nfirsts refusals : List ℕ) (n : ℕ) (mem : Memory) (before : Tape) (mem′ : Memory) (after : Tape) (written : ℕ) : Type 0 where
-  pub holding : (R : ℕ → Rule) (st : States R) → Rows ops nums nodes nfirsts refusals R n → Holding nfirsts R n st mem → Holding nfirsts R n (lastStates R st (stepsFrom text from)) mem′
-  pub wrote : (R : ℕ → Rule) (st : States R) → Rows ops nums nodes nfirsts refusals R n → Holding nfirsts R n st mem → Wrote before (reportLines (reports R n st (stepsFrom text from))) after
-  pub counted : (R : ℕ → Rule) (st : States R) → Rows ops nums nodes nfirsts refusals R n → Holding nfirsts R n st mem → written ≡ length (reports R n st (stepsFrom text from))
+pub record LinesStepped (text : List ℕ) (from : ℕ) (ops nums nodes nfirsts refusals : List ℕ) (n : ℕ) (mem : Memory) (before : Tape) (mem′ : Memory)
+    (after : Tape) (written : ℕ) : Type 0 where
+  pub holding :
+      (R : ℕ → Rule) (st : States R) → Rows ops nums nodes nfirsts refusals R n → Holding nfirsts R n st mem
+      → Holding nfirsts R n (lastStates R st (stepsFrom text from)) mem′
+  pub wrote :
+      (R : ℕ → Rule) (st : States R) → Rows ops nums nodes nfirsts refusals R n → Holding nfirsts R n st mem
+      → Wrote before (reportLines (reports R n st 0 (stepsFrom text from))) after
+  pub counted :
+      (R : ℕ → Rule) (st : States R) → Rows ops nums nodes nfirsts refusals R n → Holding nfirsts R n st mem
+      → written ≡ endCount (kindsOf R) (reports R n st 0 (stepsFrom text from))
 
 -- ---- the same from fresh monitors
 pub record StepsDue (text ops nums nodes nfirsts refusals : List ℕ) (n : ℕ) : Type 0 where
@@ -87,6 +111,10 @@ pub record StepsDue (text ops nums nodes nfirsts refusals : List ℕ) (n : ℕ) 
   pub rows : Rows ops nums nodes nfirsts refusals rules n
   pub short : length text ≤ bookBytes
 
-pub record StepsReported (text : List ℕ) (from : ℕ) (ops nums nodes nfirsts refusals : List ℕ) (n : ℕ) (before after : Tape) (written : ℕ) : Type 0 where
-  pub wrote : (R : ℕ → Rule) → Rows ops nums nodes nfirsts refusals R n → Wrote before (reportLines (reports R n (freshStates R) (stepsFrom text from))) after
-  pub counted : (R : ℕ → Rule) → Rows ops nums nodes nfirsts refusals R n → written ≡ length (reports R n (freshStates R) (stepsFrom text from))
+pub record StepsReported (text : List ℕ) (from : ℕ) (ops nums nodes nfirsts refusals : List ℕ) (n : ℕ) (before after : Tape) (total : ℕ) : Type 0 where
+  pub wrote :
+      (R : ℕ → Rule) → Rows ops nums nodes nfirsts refusals R n
+      → Wrote before (reportLines (bookReports R n (stepsFrom text from))) after
+  pub counted :
+      (R : ℕ → Rule) → Rows ops nums nodes nfirsts refusals R n
+      → total ≡ endCount (kindsOf R) (bookReports R n (stepsFrom text from))

@@ -1,6 +1,8 @@
-// The rules of a book compiled into one node table. A rule has no more nodes than its formula: its rows begin at its formula's own place.
+// The rules of a book compiled into one node table, and laid out. A rule has no more nodes than its formula: its rows begin at its formula's own place.
 use compiler::Compiled;
 use compiler::compile_formula;
+use layout::book::BookLayout;
+use layout::book::layout;
 use terms::limit::BOOK_NODES;
 use terms::limit::BOOK_RULES;
 ghost use Prim.Native.Nat.{_≤_, _<_};
@@ -58,5 +60,38 @@ pub(crate) fn compile_rules(
     while r < n {
         compile_one(ops, nums, firsts, counts, r, nodes, ncounts, refusals);
         r += 1;
+    }
+}
+
+// First bits and bits of the first n rules: 0, or the refusal.
+pub(crate) fn lay_out(
+    ops: &[u8],
+    nums: &[u64],
+    kinds: &[u8],
+    firsts: &[usize; BOOK_RULES],
+    counts: &[usize; BOOK_RULES],
+    nodes: &[u64],
+    ncounts: &[usize; BOOK_RULES],
+    refusals: &[u64; BOOK_RULES],
+    n: usize,
+    starts: &mut [u64],
+    bits: &mut [u64],
+) -> u64 {
+    match layout(
+        ops,
+        nums,
+        firsts,
+        counts,
+        nodes,
+        firsts,
+        ncounts,
+        kinds,
+        refusals,
+        n,
+        starts,
+        bits,
+    ) {
+        BookLayout::Refused(m) => m,
+        BookLayout::Done => 0,
     }
 }

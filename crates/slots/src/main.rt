@@ -1,16 +1,18 @@
 // slots: reads a book on standard input, compiles each rule and prints what the calls on compiled rules answer, by tabs:
 // `rule`, number, first bit and bits by `layout`, bits by `rule_layout`; `slot`, rule, node, offset, bits of the pending flag, of the remaining
-// count, of the remembered antecedent, by `node_slot`; `alike`, two rules, by `alike`; or `refused`, number and line of a refused book.
+// count, of the remembered antecedent, by `node_slot`; `alike`, two rules, by `alike`; or `refused`, number and line of a refused book. Calls that
+// are to be refused are made too, and write nothing.
 mod compile;
+mod misuse;
 mod show;
 
 use crate::compile::compile_rules;
+use crate::compile::lay_out;
+use crate::misuse::try_misuse;
 use crate::show::show_alike;
 use crate::show::show_number;
 use crate::show::show_refused;
 use crate::show::show_rules;
-use layout::book::BookLayout;
-use layout::book::layout;
 use libc::STDIN_FILENO;
 use libc::STDOUT_FILENO;
 use reader::read::Answer;
@@ -19,39 +21,6 @@ use terms::limit::BOOK_NODES;
 use terms::limit::BOOK_RULES;
 ghost use Prim.Native.Nat.{_≤_};
 ghost use Rattle.terms.specs.Limits.{bookRules};
-
-// First bits and bits of the n rules; or the refusal is shown.
-fn lay_out(
-    ops: &[u8],
-    nums: &[u64],
-    kinds: &[u8],
-    firsts: &[usize; BOOK_RULES],
-    counts: &[usize; BOOK_RULES],
-    nodes: &[u64],
-    ncounts: &[usize; BOOK_RULES],
-    refusals: &[u64; BOOK_RULES],
-    n: usize,
-    starts: &mut [u64],
-    bits: &mut [u64],
-) {
-    match layout(
-        ops,
-        nums,
-        firsts,
-        counts,
-        nodes,
-        firsts,
-        ncounts,
-        kinds,
-        refusals,
-        n,
-        starts,
-        bits,
-    ) {
-        BookLayout::Refused(m) => show_refused(b"layout", m),
-        BookLayout::Done => return,
-    }
-}
 
 // The n rules as they are compiled: laid out, shown, and compared.
 fn run_compiled(
@@ -69,7 +38,7 @@ fn run_compiled(
 {
     let mut starts = [0u64; BOOK_RULES];
     let mut bits = [0u64; BOOK_RULES];
-    lay_out(
+    let refused = lay_out(
         ops,
         nums,
         kinds,
@@ -82,6 +51,9 @@ fn run_compiled(
         &mut starts,
         &mut bits,
     );
+    if refused != 0 {
+        show_refused(b"layout", refused);
+    }
     show_rules(
         ops,
         nums,
@@ -130,6 +102,17 @@ fn run_rules(
         &nodes,
         &ncounts,
         &refusals,
+        n,
+    );
+    try_misuse(
+        ops,
+        nums,
+        kinds,
+        firsts,
+        counts,
+        &nodes,
+        &ncounts,
+        &mut refusals,
         n,
     );
 }

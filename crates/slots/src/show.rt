@@ -16,7 +16,7 @@ fn put(s: &[u8]) {
 }
 
 // A number behind a tab.
-pub fn show_number(n: u64) {
+pub(crate) fn show_number(n: u64) {
     put(b"\t");
     io::print_decimal(STDOUT_FILENO, n);
 }
@@ -26,7 +26,7 @@ fn show_place(n: usize) {
 }
 
 // A call's refusal, which no compiled rule meets.
-pub fn show_refused(call: &[u8], n: u64) {
+pub(crate) fn show_refused(call: &[u8], n: u64) {
     put(call);
     put(b" refused");
     show_number(n);
@@ -34,7 +34,7 @@ pub fn show_refused(call: &[u8], n: u64) {
 }
 
 // Rule r of the tables.
-fn part_at(
+pub(crate) fn part_at(
     firsts: &[usize; BOOK_RULES],
     counts: &[usize; BOOK_RULES],
     ncounts: &[usize; BOOK_RULES],

@@ -107,11 +107,16 @@ unfolding runText
 run-append owing [] t = refl
 run-append owing (x ∷ s) t = ap (λ (y : List ℕ). nodeText owing x ++ y) (run-append owing s t) ∙ sym (append-assoc (nodeText owing x) (runText owing s) (runText owing t))
 
-one-more : (owing : Bool) (f : Formula) (b : ℕ) (t : Node) (s : List Sign) → nodeText owing t ≡ b ∷ [] → runText owing (prefix f) ≡ spelled s → nodeText owing t ++ runText owing (prefix f) ≡ spelled (sign b ∷ s)
+one-more :
+    (owing : Bool) (f : Formula) (b : ℕ) (t : Node) (s : List Sign) → nodeText owing t ≡ b ∷ [] → runText owing (prefix f) ≡ spelled s
+    → nodeText owing t ++ runText owing (prefix f) ≡ spelled (sign b ∷ s)
 unfolding spelled
 one-more owing f b t s p q = rw (p, q) refl
 
-two-more : (owing : Bool) (imp : List Sign) (l r : Formula) (t : Node) (u v : List Sign) → nodeText owing t ≡ spelled imp → runText owing (prefix l) ≡ spelled u → runText owing (prefix r) ≡ spelled v → nodeText owing t ++ runText owing (prefix l ++ prefix r) ≡ spelled (imp ++ u ++ v)
+two-more :
+    (owing : Bool) (imp : List Sign) (l r : Formula) (t : Node) (u v : List Sign) → nodeText owing t ≡ spelled imp
+    → runText owing (prefix l) ≡ spelled u → runText owing (prefix r) ≡ spelled v
+    → nodeText owing t ++ runText owing (prefix l ++ prefix r) ≡ spelled (imp ++ u ++ v)
 two-more owing imp l r t u v p q w =
     ap₂ _++_ p (run-append owing (prefix l) (prefix r) ∙ ap₂ _++_ q w ∙ sym (spelled-append u v)) ∙ sym (spelled-append imp (u ++ v)) ∙ ap spelled (sym (append-assoc imp u v))
 
@@ -161,7 +166,9 @@ scan-first owing ops nums i e a h = let z : i - i ≡ 0 = omega arith in record 
   wrote = as-text a a (ap (λ (n : ℕ). runText owing (run (nodeAt ops nums) i n)) z) (nothing a);
 }
 
-pub scan-next : (owing : Bool) (ops nums : List ℕ) (i e j : ℕ) (a b c : Tape) → Scanned owing ops nums i e j a b → j < e → Wrote b (nodeText owing (node (getD ops j 0) (getD nums j 0))) c → Scanned owing ops nums i e (j + 1) a c
+pub scan-next :
+    (owing : Bool) (ops nums : List ℕ) (i e j : ℕ) (a b c : Tape) → Scanned owing ops nums i e j a b → j < e
+    → Wrote b (nodeText owing (node (getD ops j 0) (getD nums j 0))) c → Scanned owing ops nums i e (j + 1) a c
 unfolding runText nodeAt
 scan-next owing ops nums i e j a b c s h w =
     let tok : ℕ → Node = nodeAt ops nums in

@@ -1,5 +1,5 @@
 // Runs the trips of document 01 as any caller would: the book of each is read, its rule compiled, laid out, stepped from a fresh monitor and
-// split, and what the calls answer is printed, one line a trip. At the end a book of several rules is laid out and its rules are compared.
+// split, and what the calls answer is printed, one line a trip.
 use compiler::Compiled;
 use compiler::compile_formula;
 use layout::rule::NodeSlot;
@@ -24,14 +24,12 @@ use terms::limit::OWED_ROOM;
 use terms::limit::RULE_NODES;
 use terms::limit::SKELETON_ROOM;
 
-pub mod several;
-
-pub fn put(s: &[u8]) {
+fn put(s: &[u8]) {
     io::write_all(STDOUT_FILENO, s);
 }
 
 // A number behind a word.
-pub fn show(word: &[u8], n: u64) {
+fn show(word: &[u8], n: u64) {
     put(word);
     io::print_decimal(STDOUT_FILENO, n);
 }
@@ -195,12 +193,11 @@ fn show_slot(
     first: usize,
     count: usize,
     nodes: &[u64],
-    nfirst: usize,
     ncount: usize,
     j: usize,
 ) {
     show(b", node ", j as u64);
-    match node_slot(ops, nums, first, count, nodes, nfirst, ncount, j) {
+    match node_slot(ops, nums, first, count, nodes, 0, ncount, j) {
         NodeSlot::Refused(n) => show(b" refused ", n),
         NodeSlot::At(s) => {
             let p = s.piece;
@@ -212,20 +209,11 @@ fn show_slot(
     }
 }
 
-// The first n nodes.
-pub fn show_slots(
-    ops: &[u8],
-    nums: &[u64],
-    first: usize,
-    count: usize,
-    nodes: &[u64],
-    nfirst: usize,
-    ncount: usize,
-    n: usize,
-) {
+// All nodes of a compiled rule.
+fn show_slots(ops: &[u8], nums: &[u64], first: usize, count: usize, nodes: &[u64], ncount: usize) {
     let mut j: usize = 0;
-    while j < n {
-        show_slot(ops, nums, first, count, nodes, nfirst, ncount, j);
+    while j < ncount {
+        show_slot(ops, nums, first, count, nodes, ncount, j);
         j += 1;
     }
 }
@@ -329,7 +317,7 @@ fn run_rule(text: &[u8], steps_at: usize, ops: &[u8], nums: &[u64], first: usize
         Compiled::Nodes(n) => {
             put(b": compile 0");
             show_bits(ops, nums, first, count, &nodes, n);
-            show_slots(ops, nums, first, count, &nodes, 0, n, n);
+            show_slots(ops, nums, first, count, &nodes, n);
             show_reports(text, steps_at, ops, nums, first, count, &nodes, n);
         }
     }
@@ -420,5 +408,4 @@ fn main() {
     run_always();
     run_alone();
     run_bounds();
-    several::run(b"several");
 }

@@ -7,10 +7,10 @@ use Rattle.trips.proofs.show_slots.Lts as lts
 use Rattle.trips.proofs.show_slot.Reads as show-slot-reads
 
 abbrev Inv-loop : tie.InvT-loop
-Inv-loop ops nums first count nodes nfirst ncount n j₀ j = Unit {0}
+Inv-loop ops nums first count nodes ncount j₀ j = Unit {0}
 
 abbrev μ-loop : tie.MeasureT-loop
-μ-loop ops nums first count nodes nfirst ncount n j₀ j = n - j
+μ-loop ops nums first count nodes ncount j₀ j = ncount - j
 
 loop-holds : tie.Need-loop-holds Inv-loop μ-loop
 loop-holds c = search needs

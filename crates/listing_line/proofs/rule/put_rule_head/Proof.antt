@@ -1,4 +1,4 @@
-use Rattle.listing_line.proofs.Rules.{rule-head}
+use Rattle.listing_line.proofs.Fields.{tab-three}
 use borrow.Author.Needs.{needs}
 use Rattle.listing_line.proofs.rule.put_rule_head.Statement.{statement}
 use Rattle.listing_line.proofs.rule.put_rule_head.Tie as tie
@@ -23,7 +23,7 @@ same-length : tie.Need-same-length
 same-length c = search needs
 
 returns : tie.Need-returns
-returns c = search (needs, rule-head)
+returns c = search (needs, tab-three)
 
 pub put-rule-head-spec : {M : Type 1} → statement M
 put-rule-head-spec =

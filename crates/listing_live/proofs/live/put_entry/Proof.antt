@@ -1,6 +1,6 @@
 use Prim.Native.Nat.{_<_}
 use native.Mathlib.Omega.{arith}
-use Rattle.listing_live.proofs.Entries.{leaf-in-ops, leaf-in-nums, entry-safety, entry-owed, entry-not, entry-and, entry-or, entry-implies}
+use Rattle.listing_live.proofs.Entries.{leaf-in-ops, leaf-in-nums, entry-safety, entry-owed, entry-word}
 use borrow.Author.Needs.{needs}
 use Rattle.listing_live.proofs.live.put_entry.Statement.{statement}
 use Rattle.listing_live.proofs.live.put_entry.Tie as tie
@@ -46,41 +46,17 @@ same-length-2 c = search needs
 returns-2 : tie.Need-returns-2
 returns-2 c = search (needs, entry-owed)
 
-put-byte-requires-3 : tie.Need-put-byte-requires-3
-put-byte-requires-3 c κs = search needs
+cast-put-word : tie.Need-cast-put-word
+cast-put-word c = search needs
+
+put-word-requires-2 : tie.Need-put-word-requires-2
+put-word-requires-2 c κs = search needs
 
 same-length-3 : tie.Need-same-length-3
 same-length-3 c = search needs
 
 returns-3 : tie.Need-returns-3
-returns-3 c = search (needs, entry-not)
-
-put-byte-requires-4 : tie.Need-put-byte-requires-4
-put-byte-requires-4 c κs = search needs
-
-same-length-4 : tie.Need-same-length-4
-same-length-4 c = search needs
-
-returns-4 : tie.Need-returns-4
-returns-4 c = search (needs, entry-and)
-
-put-byte-requires-5 : tie.Need-put-byte-requires-5
-put-byte-requires-5 c κs = search needs
-
-same-length-5 : tie.Need-same-length-5
-same-length-5 c = search needs
-
-returns-5 : tie.Need-returns-5
-returns-5 c = search (needs, entry-or)
-
-put-byte-requires-6 : tie.Need-put-byte-requires-6
-put-byte-requires-6 c κs = search needs
-
-same-length-6 : tie.Need-same-length-6
-same-length-6 c = search needs
-
-returns-6 : tie.Need-returns-6
-returns-6 c = search (needs, entry-implies)
+returns-3 c = search (needs, entry-word)
 
 pub put-entry-spec : {M : Type 1} → statement M
 put-entry-spec =
@@ -97,15 +73,7 @@ put-entry-spec =
     put-decimal-requires
     same-length-2
     returns-2
-    put-byte-requires-3
+    cast-put-word
+    put-word-requires-2
     same-length-3
-    returns-3
-    put-byte-requires-4
-    same-length-4
-    returns-4
-    put-byte-requires-5
-    same-length-5
-    returns-5
-    put-byte-requires-6
-    same-length-6
-    returns-6)
+    returns-3)

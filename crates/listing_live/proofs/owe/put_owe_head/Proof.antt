@@ -1,4 +1,4 @@
-use Rattle.listing_live.proofs.Owes.{owe-head}
+use Rattle.listing_line.proofs.Fields.{tab-letter}
 use borrow.Author.Needs.{needs}
 use Rattle.listing_live.proofs.owe.put_owe_head.Statement.{statement}
 use Rattle.listing_live.proofs.owe.put_owe_head.Tie as tie
@@ -27,7 +27,7 @@ same-length : tie.Need-same-length
 same-length c = search needs
 
 returns : tie.Need-returns
-returns c = search (needs, owe-head)
+returns c = search (needs, tab-letter)
 
 pub put-owe-head-spec : {M : Type 1} → statement M
 put-owe-head-spec =

@@ -1,0 +1,2 @@
+-- The lines of the rules of a book, as text.
+pub mod Head

@@ -1,0 +1,1 @@
+// The lines of the rules of a book, as text: definitions only.

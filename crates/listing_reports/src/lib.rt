@@ -1,0 +1,1 @@
+// The reports of a book and their lines, as text: definitions only.
