@@ -2,21 +2,14 @@
 use mathlib.Core.Path.{_≡_, refl, sym, ap, ap₂, subst, _∙_}
 use mathlib.Core.Bool.{Bool, true, false, _&&_}
 use mathlib.Core.List.{List, [], _∷_, _++_, append-assoc, append-nil}
-use mathlib.Core.Logic.{⊎-elim}
 use mathlib.Core.Option.{Option, none, some}
 use Prim.Native.Nat.{ℕ, zero, suc, _+_, _-_, _≤_, _<_}
 use native.Mathlib.Omega.{arith}
-use lib.Dec.{leb}
-use borrow.Author.Tests.{leb-true}
 use lib.ListN.{length}
 use Rattle.formula.specs.Tree.{Tree, leaf, one, two, Token, leaf-of, one-of, two-of, unknown, size, prefix}
-use Rattle.formula.specs.Spells.{Spells}
 use Rattle.formula.specs.Formula.{Formula}
-use Rattle.formula.specs.Table.{nodeAt, Rule}
-use Rattle.formula.specs.Pure.{pure}
-use Rattle.formula.proofs.Cases.{below-or}
-use Rattle.formula.proofs.Trees.{some-inj, none-some}
-use Rattle.formula.proofs.Nodes.{spells-unknown}
+use Rattle.formula.specs.Table.{Rule}
+use Rattle.formula.proofs.Trees.{some-inj}
 use Rattle.monitor.specs.declared.node.SignalExpr.{SignalExpr}
 use Rattle.monitor.specs.declared.node.SignalExpr.the-variants.{True, At}
 use Rattle.monitor.specs.declared.node.MonNode.{MonNode}
@@ -25,8 +18,8 @@ use Rattle.monitor.specs.declared.node.Row.{Row}
 use Rattle.monitor.specs.declared.node.Row.the-variants.{Node, Unknown}
 use Rattle.monitor.specs.declared.range.AnchorRange.{AnchorRange}
 use Rattle.monitor.specs.Mon.{Signal, always-true, at, Check, range-check, delayed-check, obligation, Mon, exprOf}
-use Rattle.monitor.specs.Table.{Never, Join, join-and, join-or, Cell, subAt, keepPure, keepSignal, signalOf, checked, cellOf, fromTree}
-use Rattle.monitor.proofs.Parts.{FormulaPart, part-at, no-part}
+use Rattle.monitor.specs.Table.{Never, Join, join-and, join-or, Cell, signalOf, checked, cellOf, fromTree}
+use Rattle.monitor.proofs.Signals.{signal-inv}
 use Rattle.alike.specs.Alike.{alikeMon}
 use Rattle.alike.specs.Signs.{Sound, Spelt, Means}
 use Rattle.alike.specs.Rows.{alikeJoin, alikeCell, alikeCells, rowFor, SoundCell, Shows}
@@ -36,7 +29,8 @@ and-assoc : (a b c : Bool) → (a && (b && c)) ≡ ((a && b) && c)
 and-assoc true b c = refl
 and-assoc false b c = refl
 
-agree-pair : (ls rs ls′ rs′ xs ys : List Cell) (a b : Bool) → alikeCells (ls ++ (rs ++ xs)) (ls′ ++ (rs′ ++ ys)) ≡ (a && alikeCells (rs ++ xs) (rs′ ++ ys)) → alikeCells (rs ++ xs) (rs′ ++ ys) ≡ (b && alikeCells xs ys) → alikeCells ((ls ++ rs) ++ xs) ((ls′ ++ rs′) ++ ys) ≡ ((a && b) && alikeCells xs ys)
+agree-pair : (ls rs ls′ rs′ xs ys : List Cell) (a b : Bool) → alikeCells (ls ++ (rs ++ xs)) (ls′ ++ (rs′ ++ ys)) ≡ (a && alikeCells (rs ++ xs) (rs′ ++ ys))
+    → alikeCells (rs ++ xs) (rs′ ++ ys) ≡ (b && alikeCells xs ys) → alikeCells ((ls ++ rs) ++ xs) ((ls′ ++ rs′) ++ ys) ≡ ((a && b) && alikeCells xs ys)
 agree-pair ls rs ls′ rs′ xs ys a b p q =
     ap₂ alikeCells (append-assoc ls rs xs) (append-assoc ls′ rs′ ys)
     ∙ p
@@ -82,60 +76,24 @@ lengths-differ [] (y ∷ ys) h = refl
 lengths-differ (x ∷ xs) [] h = refl
 lengths-differ (x ∷ xs) (y ∷ ys) h = ap (alikeCell x y &&_) (lengths-differ xs ys (λ e. h (ap suc e))) ∙ and-false (alikeCell x y)
 
--- every place of a tree holds a known cell
-pub known-at : (tok : ℕ → Cell) (i : ℕ) (t : Tree Check Never Join) (k : ℕ) → Spells tok i t → k < size t → tok (i + k) ≡ unknown → ⊥
-unfolding Spells size
-known-at tok i (leaf c) zero s h e = spells-unknown tok i (leaf c) (subst (λ (n : ℕ). tok n ≡ unknown) (omega arith) e) s
-known-at tok i (leaf c) (suc k) s h e = omega arith
-known-at tok i (one n t) k s h e = elim n [ ]
-known-at tok i (two j l r) zero s h e = spells-unknown tok i (two j l r) (subst (λ (n : ℕ). tok n ≡ unknown) (omega arith) e) s
-known-at tok i (two j l r) (suc k) s h e = ⊎-elim
-    (λ q. known-at tok (i + 1) l k (s .1) q (subst (λ (n : ℕ). tok n ≡ unknown) (omega arith) e))
-    (λ q. known-at tok (i + 1 + size l) r (k - size l) (s .2) (omega arith) (subst (λ (n : ℕ). tok n ≡ unknown) (omega arith) e))
-    (below-or k (size l))
-
 -- ---- a known cell of a rule's table is shown by its row
-keep-pure-inv : (p : ℕ) (g : Formula) (x : Signal) → keepPure p (some g) ≡ some x → (pure g ≡ true) × (x ≡ at p g)
-keep-pure-inv p g x = go (pure g) refl
-  where
-    go : (b : Bool) → pure g ≡ b → keepPure p (some g) ≡ some x → (pure g ≡ true) × (x ≡ at p g)
-    go true e z = (e, sym (some-inj (rw e at z)))
-    go false e z = none-some (rw e at z)
-
 module _ (ops nums : List ℕ) (first count : ℕ) (f : Formula) (rule : Rule ops nums first count f) where
-  part-spelt : (p : ℕ) (g : Formula) → first ≤ p → subAt f (p - first) ≡ some g → pure g ≡ true → Spelt ops nums p g
-  part-spelt p g h e q = ⊎-elim
-      (λ l.
-      let u = part-at (nodeAt ops nums) first f (p - first) (rule .spells) l in
-      let same : u .part ≡ g = some-inj (sym (u .is) ∙ e) in
-      let z : first + (p - first) ≡ p = omega arith in
-      record {
-        spells = subst (λ (n : ℕ). Spells (nodeAt ops nums) n g) z (subst (Spells (nodeAt ops nums) (first + (p - first))) same (u .spells));
-        is-pure = q;
-        in-ops = omega (arith, rule .in-ops, rule .covers, u .inside, ap (λ (x : Formula). size x) same);
-        in-nums = omega (arith, rule .in-nums, rule .covers, u .inside, ap (λ (x : Formula). size x) same);
-      })
-      (λ l. none-some (sym (no-part f (p - first) l) ∙ e))
-      (below-or (p - first) (size f))
-
   signal-means : (e : SignalExpr) (x : Signal) → signalOf f first e ≡ some x → Means ops nums e x
   signal-means True x h = subst (Means ops nums True) (some-inj h) (record { is = refl; sound = omega arith })
-  signal-means (At p) x h = go (leb first p) refl (subAt f (p - first)) refl h
-    where
-      go : (b : Bool) → leb first p ≡ b → (o : Option Formula) → subAt f (p - first) ≡ o → keepSignal b (keepPure p o) ≡ some x → Means ops nums (At p) x
-      go false l o e z = none-some z
-      go true l none e z = none-some z
-      go true l (some g) e z =
-          let (q, i) = keep-pure-inv p g x z in
-          subst (Means ops nums (At p)) (sym i) (record { is = refl; sound = part-spelt p g (leb-true first p l) e q })
+  signal-means (At p) x h =
+      let (g, e, s) = signal-inv ops nums first count f rule p x h in
+      subst (Means ops nums (At p)) (sym e) (record { is = refl; sound = record { spells = s .spells; is-pure = s .is-pure; in-ops = s .in-ops; in-nums = s .in-nums } })
 
-  shows-one : (s : SignalExpr) (r : AnchorRange) (o : Option Signal) → signalOf f first s ≡ o → (checked (λ x. leaf-of (range-check x r)) o ≡ unknown → ⊥) → Shows ops nums (Node (RangeCheck s r)) (checked (λ x. leaf-of (range-check x r)) o)
+  shows-one : (s : SignalExpr) (r : AnchorRange) (o : Option Signal) → signalOf f first s ≡ o → (checked (λ x. leaf-of (range-check x r)) o ≡ unknown → ⊥)
+      → Shows ops nums (Node (RangeCheck s r)) (checked (λ x. leaf-of (range-check x r)) o)
   shows-one s r none e h = absurd (h refl)
   shows-one s r (some x) e h =
       let m = signal-means s x e in
       record { is = ap (λ (y : SignalExpr). Node (RangeCheck y r)) (m .is); known = h; sound = (m .sound, m .sound) }
 
-  shows-delayed : (s t : SignalExpr) (r : AnchorRange) (o o′ : Option Signal) → signalOf f first s ≡ o → signalOf f first t ≡ o′ → (checked (λ x. checked (λ y. leaf-of (delayed-check x y r)) o′) o ≡ unknown → ⊥) → Shows ops nums (Node (DelayedCheck s t r)) (checked (λ x. checked (λ y. leaf-of (delayed-check x y r)) o′) o)
+  shows-delayed : (s t : SignalExpr) (r : AnchorRange) (o o′ : Option Signal) → signalOf f first s ≡ o → signalOf f first t ≡ o′
+      → (checked (λ x. checked (λ y. leaf-of (delayed-check x y r)) o′) o ≡ unknown → ⊥)
+      → Shows ops nums (Node (DelayedCheck s t r)) (checked (λ x. checked (λ y. leaf-of (delayed-check x y r)) o′) o)
   shows-delayed s t r none o′ e e′ h = absurd (h refl)
   shows-delayed s t r (some x) none e e′ h = absurd (h refl)
   shows-delayed s t r (some x) (some y) e e′ h =
@@ -143,7 +101,9 @@ module _ (ops nums : List ℕ) (first count : ℕ) (f : Formula) (rule : Rule op
       let n = signal-means t y e′ in
       record { is = ap₂ (λ (a b : SignalExpr). Node (DelayedCheck a b r)) (m .is) (n .is); known = h; sound = (m .sound, n .sound) }
 
-  shows-owed : (b : ℕ) (s t : SignalExpr) (r : AnchorRange) (o o′ : Option Signal) → signalOf f first s ≡ o → signalOf f first t ≡ o′ → (checked (λ x. checked (λ y. leaf-of (obligation b x y r)) o′) o ≡ unknown → ⊥) → Shows ops nums (Node (Obligation b s t r)) (checked (λ x. checked (λ y. leaf-of (obligation b x y r)) o′) o)
+  shows-owed : (b : ℕ) (s t : SignalExpr) (r : AnchorRange) (o o′ : Option Signal) → signalOf f first s ≡ o → signalOf f first t ≡ o′
+      → (checked (λ x. checked (λ y. leaf-of (obligation b x y r)) o′) o ≡ unknown → ⊥)
+      → Shows ops nums (Node (Obligation b s t r)) (checked (λ x. checked (λ y. leaf-of (obligation b x y r)) o′) o)
   shows-owed b s t r none o′ e e′ h = absurd (h refl)
   shows-owed b s t r (some x) none e e′ h = absurd (h refl)
   shows-owed b s t r (some x) (some y) e e′ h =

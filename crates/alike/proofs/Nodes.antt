@@ -59,7 +59,8 @@ module _ (ops nums : List ℕ) (m : MonNode) where
   is-range s r e (two-of join-or) h = let i = h .is in let z : _≡_ {A = ℕ} 0 1 = cc in absurd (omega arith)
   is-range s r e unknown h = absurd (h .known refl)
 
-  is-delayed : (s t : SignalExpr) (r : AnchorRange) → m ≡ DelayedCheck s t r → (c : Cell) → Shows ops nums (Node m) c → (x : Signal) × (y : Signal) × (c ≡ leaf-of (delayed-check x y r)) × Means ops nums s x × Means ops nums t y
+  is-delayed : (s t : SignalExpr) (r : AnchorRange) → m ≡ DelayedCheck s t r → (c : Cell) → Shows ops nums (Node m) c
+      → (x : Signal) × (y : Signal) × (c ≡ leaf-of (delayed-check x y r)) × Means ops nums s x × Means ops nums t y
   is-delayed s t r e (leaf-of (range-check x q)) h = let i = h .is in let z : _≡_ {A = ℕ} 0 1 = cc in absurd (omega arith)
   is-delayed s t r e (leaf-of (delayed-check x y q)) h =
       let i = h .is in
@@ -71,7 +72,8 @@ module _ (ops nums : List ℕ) (m : MonNode) where
   is-delayed s t r e (two-of join-or) h = let i = h .is in let z : _≡_ {A = ℕ} 0 1 = cc in absurd (omega arith)
   is-delayed s t r e unknown h = absurd (h .known refl)
 
-  is-owed : (k : ℕ) (s t : SignalExpr) (r : AnchorRange) → m ≡ Obligation k s t r → (c : Cell) → Shows ops nums (Node m) c → (x : Signal) × (y : Signal) × (c ≡ leaf-of (obligation k x y r)) × Means ops nums s x × Means ops nums t y
+  is-owed : (k : ℕ) (s t : SignalExpr) (r : AnchorRange) → m ≡ Obligation k s t r → (c : Cell) → Shows ops nums (Node m) c
+      → (x : Signal) × (y : Signal) × (c ≡ leaf-of (obligation k x y r)) × Means ops nums s x × Means ops nums t y
   is-owed k s t r e (leaf-of (range-check x q)) h = let i = h .is in let z : _≡_ {A = ℕ} 0 1 = cc in absurd (omega arith)
   is-owed k s t r e (leaf-of (delayed-check x y q)) h = let i = h .is in let z : _≡_ {A = ℕ} 0 1 = cc in absurd (omega arith)
   is-owed k s t r e (leaf-of (obligation b x y q)) h =
@@ -144,7 +146,8 @@ module _ (ops nums : List ℕ) (m n : MonNode) where
     }
 
     module _ (q : v ≡ true) (r : Bool) (l : Likened ops nums s t r) where
-      delayed-rest : (c d : Cell) → Shows ops nums (Node m) c → Shows ops nums (Node n) d → (i′ : Signal) × (j′ : Signal) × (alikeCell c d ≡ (r && alikeSignal i′ j′)) × Means ops nums s′ i′ × Means ops nums t′ j′
+      delayed-rest : (c d : Cell) → Shows ops nums (Node m) c → Shows ops nums (Node n) d
+          → (i′ : Signal) × (j′ : Signal) × (alikeCell c d ≡ (r && alikeSignal i′ j′)) × Means ops nums s′ i′ × Means ops nums t′ j′
       delayed-rest c d x y =
           let (i, i′, g, w, w′) = is-delayed ops nums m s s′ a e c x in
           let (j, j′, h, z, z′) = is-delayed ops nums n t t′ b f d y in
@@ -183,7 +186,8 @@ module _ (ops nums : List ℕ) (m n : MonNode) where
       }
 
       module _ (q : v ≡ true) (r : Bool) (l : Likened ops nums s t r) where
-        owed-rest : (c d : Cell) → Shows ops nums (Node m) c → Shows ops nums (Node n) d → (i′ : Signal) × (j′ : Signal) × (alikeCell c d ≡ (r && alikeSignal i′ j′)) × Means ops nums s′ i′ × Means ops nums t′ j′
+        owed-rest : (c d : Cell) → Shows ops nums (Node m) c → Shows ops nums (Node n) d
+            → (i′ : Signal) × (j′ : Signal) × (alikeCell c d ≡ (r && alikeSignal i′ j′)) × Means ops nums s′ i′ × Means ops nums t′ j′
         owed-rest c d x y =
             let (i, i′, g, w, w′) = is-owed ops nums m b₁ s s′ a e c x in
             let (j, j′, h, z, z′) = is-owed ops nums n b₂ t t′ b f d y in (

@@ -11,58 +11,38 @@ use borrow.Author.Tests.{lt-ltb}
 use lib.Dec.{ltb}
 use Rattle.formula.specs.Tree.{leaf, one, two, leaf-of, one-of, two-of, size}
 use Rattle.formula.specs.Spells.{Spells}
-use Rattle.formula.specs.Formula.{Atom, Formula, signal, var, input, output, not, next, always, eventually, always-for, within, and, or, implies, until}
+use Rattle.formula.specs.Formula.{Atom, Formula, node, var, input, output, not, next, always, eventually, always-for, within, and, or, implies, until}
 use Rattle.formula.specs.Table.{nodeAt, Placed}
 use Rattle.formula.specs.Pure.{pure}
 use Rattle.formula.specs.Signal.{Purely}
-use Rattle.formula.specs.Text.{Sign, atom, sign, signsBy, signs, alikeSigns, agree, alikeText}
+use Rattle.formula.specs.Text.{Sign, atom, sign, signsBy, signs}
 use Rattle.formula.specs.declared.table.Walk.{Walk}
 use Rattle.formula.specs.declared.table.Walk.the-variants.{Upto, Stuck}
 use Rattle.formula.proofs.Cases.{true-false}
 use Rattle.formula.proofs.Nodes.{numberOf, atom-number, unary-number, binary-number}
 use Rattle.formula.proofs.Walks.{both-true}
-use Rattle.formula.proofs.Places.{leaf-there}
 use Rattle.formula.proofs.Signals.{purely-yes, purely-no}
 use Rattle.monitor.specs.declared.node.SignalExpr.{SignalExpr}
 use Rattle.monitor.specs.declared.node.SignalExpr.the-variants.{True, At}
 use Rattle.monitor.specs.Mon.{Signal, always-true, at, exprOf}
 use Rattle.alike.specs.declared.text.Cursor.{Cursor}
+use Rattle.alike.specs.Text.{agree}
 use Rattle.alike.specs.Alike.{alikeSignal}
-use Rattle.alike.specs.Signs.{signsAt, signsFrom, rest, Spelt, IsSpelt, LikenedAt, Means, IsMeant, Likened}
-
--- ---- every atom by the one letter v
-letter : Sign → Sign
-letter (atom a) = atom (var (signal a))
-letter (sign m) = sign m
-
-letters : List Sign → List Sign
-letters [] = []
-letters (x ∷ xs) = letter x ∷ letters xs
-
-letters-append : (xs ys : List Sign) → letters (xs ++ ys) ≡ letters xs ++ letters ys
-unfolding letters
-letters-append [] ys = refl
-letters-append (x ∷ xs) ys = ap (letter x ∷_) (letters-append xs ys)
-
-alike-letter : (x y : Sign) → alikeSigns (letter x) (letter y) ≡ alikeSigns x y
-unfolding letter
-alike-letter (atom a) (atom b) = refl
-alike-letter (atom a) (sign n) = refl
-alike-letter (sign m) (atom b) = refl
-alike-letter (sign m) (sign n) = refl
-
-agree-letters : (xs ys : List Sign) → agree (letters xs) (letters ys) ≡ agree xs ys
-unfolding letters agree
-agree-letters [] [] = refl
-agree-letters [] (y ∷ ys) = refl
-agree-letters (x ∷ xs) [] = refl
-agree-letters (x ∷ xs) (y ∷ ys) = ap₂ _&&_ (alike-letter x y) (agree-letters xs ys)
+use Rattle.alike.specs.Signs.{atomOf, signsAt, signsFrom, rest, Spelt, IsSpelt, LikenedAt, Means, IsMeant, Likened}
 
 -- ---- the signs of a formula's places
 atom-low : (a : Atom) → numberOf (leaf-of a) < 3
 atom-low (var n) = omega arith
 atom-low (input n) = omega arith
 atom-low (output n) = omega arith
+
+-- the operation and the number at an atom's place give the atom
+atom-read : (op n : ℕ) (a : Atom) → op < 3 → node op n ≡ leaf-of a → atomOf op n ≡ a
+unfolding node
+atom-read zero n a h e = cc
+atom-read (suc zero) n a h e = cc
+atom-read (suc (suc zero)) n a h e = cc
+atom-read (suc (suc (suc k))) n a h e = absurd (omega arith)
 
 module _ (ops nums : List ℕ) where
   from-add : (i m n : ℕ) → signsFrom ops nums i (m + n) ≡ signsFrom ops nums i m ++ signsFrom ops nums (i + m) n
@@ -79,18 +59,15 @@ module _ (ops nums : List ℕ) where
   unfolding signsFrom
   word op i n h = rw one-add (ap (λ (k : ℕ). signsAt k (getD nums i 0) ++ signsFrom ops nums (i + 1) n) h)
 
-  both-signs : (l r : Formula) (i : ℕ) → signsFrom ops nums i (size l) ≡ letters (signs l) → signsFrom ops nums (i + size l) (size r) ≡ letters (signs r) → signsFrom ops nums i (size l + size r) ≡ letters (signs l ++ signs r)
+  both-signs : (l r : Formula) (i : ℕ) → signsFrom ops nums i (size l) ≡ signs l → signsFrom ops nums (i + size l) (size r) ≡ signs r → signsFrom ops nums i (size l + size r) ≡ signs l ++ signs r
   both-signs l r i p q =
-      from-add i (size l) (size r) ∙ ap₂ _++_ p q ∙ sym (letters-append (signs l) (signs r))
+      from-add i (size l) (size r) ∙ ap₂ _++_ p q
 
-  spelt-signs : (f : Formula) (i : ℕ) → Spells (nodeAt ops nums) i f → pure f ≡ true → signsFrom ops nums i (size f) ≡ letters (signs f)
-  unfolding Spells size pure signsBy letters letter nodeAt signsFrom
+  spelt-signs : (f : Formula) (i : ℕ) → Spells (nodeAt ops nums) i f → pure f ≡ true → signsFrom ops nums i (size f) ≡ signs f
+  unfolding Spells size pure signsBy nodeAt signsFrom
   spelt-signs (leaf a) i s h =
       let low : getD ops i 0 < 3 = subst (λ (n : ℕ). n < 3) (sym (atom-number _ _ a s)) (atom-low a) in
-      let (b, e, n) = leaf-there ops nums i (leaf a) s low in
-      let q : a ≡ b = cc in
-      let z : getD nums i 0 ≡ signal a = sym (ap signal q ∙ n) in
-      simp (lt-ltb _ 3 low, z)
+      simp (lt-ltb _ 3 low, atom-read _ _ a low s)
   spelt-signs (one not f) i s h =
       word 3 i (size f) (unary-number _ _ not (s .0)) ∙ ap (sign 33 ∷_) (spelt-signs f (i + 1) (s .1) h)
   spelt-signs (one next f) i s h = true-false h refl
@@ -134,16 +111,17 @@ module _ (ops nums : List ℕ) where
       text-in-nums = omega (arith, purely-yes ops nums p v a (u .formula) (u .spelt .spells) e z .1, u .spelt .in-nums)
 
   -- all of the text is left at its start
-  whole-text : (p e : ℕ) (v : Walk) (f : Formula) → Purely ops nums p v → v ≡ Upto e → Spelt ops nums p f → rest ops nums (record { at = p; owes = false }) e ≡ letters (signs f)
+  whole-text : (p e : ℕ) (v : Walk) (f : Formula) → Purely ops nums p v → v ≡ Upto e → Spelt ops nums p f → rest ops nums (record { at = p; owes = false }) e ≡ signs f
   unfolding rest
   whole-text p e v f a z x =
       let n : e ≡ p + size f = purely-yes ops nums p v a f (x .spells) e z .1 in
       let k : e - p ≡ size f = omega arith in
       ap (signsFrom ops nums p) k ∙ spelt-signs f p (x .spells) (x .is-pure)
 
-  pub both-texts : (p q e e′ : ℕ) (v w : Walk) → Purely ops nums p v → Purely ops nums q w → v ≡ Upto e → w ≡ Upto e′ → (r : Bool) → r ≡ agree (rest ops nums (record { at = p; owes = false }) e) (rest ops nums (record { at = q; owes = false }) e′) → LikenedAt ops nums p q r
+  pub both-texts : (p q e e′ : ℕ) (v w : Walk) → Purely ops nums p v → Purely ops nums q w → v ≡ Upto e → w ≡ Upto e′ → (r : Bool)
+      → r ≡ agree (rest ops nums (record { at = p; owes = false }) e) (rest ops nums (record { at = q; owes = false }) e′) → LikenedAt ops nums p q r
   both-texts p q e e′ v w a b y z r h = record {
-    is = λ f g s t. h ∙ ap₂ agree (whole-text p e v f a y s) (whole-text q e′ w g b z t) ∙ agree-letters (signs f) (signs g);
+    is = λ f g s t. h ∙ ap₂ agree (whole-text p e v f a y s) (whole-text q e′ w g b z t);
   }
 
 -- ---- two signals

@@ -7,14 +7,16 @@ use native.Mathlib.Omega.{arith}
 use lib.Dec.{eqb, ltb}
 use lib.ListN.{length, getD}
 use borrow.Author.Tests.{lt-ltb, le-ltb}
-use Rattle.formula.specs.Formula.{var}
-use Rattle.formula.specs.Text.{Sign, atom, sign, alikeSigns, agree}
+use Rattle.terms.specs.Choice.{pick}
+use Rattle.formula.specs.Formula.{Atom, signal, var, input, output}
+use Rattle.formula.specs.Text.{Sign, atom, sign}
+use Rattle.alike.specs.Text.{alikeAtoms, alikeSigns, agree}
 use Rattle.alike.specs.declared.text.Sign.{Sign as Read}
-use Rattle.alike.specs.declared.text.Sign.the-variants.{Atom, Word}
+use Rattle.alike.specs.declared.text.Sign.the-variants.{Atom as AtomOf, Word}
 use Rattle.alike.specs.declared.text.Cursor.{Cursor}
 use Rattle.alike.specs.declared.text.Next.{Next}
 use Rattle.alike.specs.declared.text.Next.the-variants.{Here, End}
-use Rattle.alike.specs.Signs.{signOf, signsAt, signsFrom, owed, rest, taken}
+use Rattle.alike.specs.Signs.{atomOf, signOf, signsAt, signsFrom, owed, rest, taken}
 
 -- ---- the sign at a cursor
 module _ (ops nums : List ℕ) (c : Cursor) (end : ℕ) where
@@ -40,7 +42,7 @@ module _ (ops nums : List ℕ) (c : Cursor) (end : ℕ) where
         let z : end - c .at ≡ suc (end - (c .at + 1)) = omega arith in
         not-owed h ∙ ap (signsFrom ops nums (c .at)) z
 
-    pub sign-atom : getD ops (c .at) 0 < 3 → rest ops nums c end ≡ atom (var (getD nums (c .at) 0)) ∷ rest ops nums (record { at = c .at + 1; owes = false }) end
+    pub sign-atom : getD ops (c .at) 0 < 3 → rest ops nums c end ≡ atom (atomOf (getD ops (c .at) 0) (getD nums (c .at) 0)) ∷ rest ops nums (record { at = c .at + 1; owes = false }) end
     unfolding rest
     sign-atom a = place ∙ simp (lt-ltb _ 3 a)
 
@@ -52,27 +54,41 @@ module _ (ops nums : List ℕ) (c : Cursor) (end : ℕ) where
     unfolding rest
     sign-and a b d = place ∙ simp (le-ltb _ 3 a, le-ltb _ 4 b, lt-ltb _ 10 d)
 
-    pub sign-or : 3 ≤ getD ops (c .at) 0 → 4 ≤ getD ops (c .at) 0 → 10 ≤ getD ops (c .at) 0 → getD ops (c .at) 0 < 11 → rest ops nums c end ≡ sign 124 ∷ rest ops nums (record { at = c .at + 1; owes = false }) end
+    pub sign-or : 3 ≤ getD ops (c .at) 0 → 4 ≤ getD ops (c .at) 0 → 10 ≤ getD ops (c .at) 0 → getD ops (c .at) 0 < 11
+        → rest ops nums c end ≡ sign 124 ∷ rest ops nums (record { at = c .at + 1; owes = false }) end
     unfolding rest
     sign-or a b d e = place ∙ simp (le-ltb _ 3 a, le-ltb _ 4 b, le-ltb _ 10 d, lt-ltb _ 11 e)
 
-    pub sign-implies : 3 ≤ getD ops (c .at) 0 → 4 ≤ getD ops (c .at) 0 → 10 ≤ getD ops (c .at) 0 → 11 ≤ getD ops (c .at) 0 → rest ops nums c end ≡ sign 124 ∷ rest ops nums (record { at = c .at + 1; owes = true }) end
+    pub sign-implies : 3 ≤ getD ops (c .at) 0 → 4 ≤ getD ops (c .at) 0 → 10 ≤ getD ops (c .at) 0 → 11 ≤ getD ops (c .at) 0
+        → rest ops nums c end ≡ sign 124 ∷ rest ops nums (record { at = c .at + 1; owes = true }) end
     unfolding rest
     sign-implies a b d e = place ∙ simp (le-ltb _ 3 a, le-ltb _ 4 b, le-ltb _ 10 d, le-ltb _ 11 e)
 
+-- ---- two atoms
+signal-of : (op n : ℕ) → signal (atomOf op n) ≡ n
+signal-of op n = go (eqb op 0) (eqb op 1)
+  where
+    go : (v i : Bool) → signal (pick v (var n) (pick i (input n) (output n))) ≡ n
+    go true i = refl
+    go false true = refl
+    go false false = refl
+
+pub same-atoms : (o m p n : ℕ) → eqb m n ≡ alikeAtoms (atomOf o m) (atomOf p n)
+same-atoms o m p n = sym (ap₂ eqb (signal-of o m) (signal-of p n))
+
 -- ---- two signs
-module _ (a b : Read) (m n : ℕ) where
-  pub both-atoms : a ≡ Atom m → b ≡ Atom n → eqb m n ≡ alikeSigns (signOf a) (signOf b)
-  both-atoms p q = sym (ap₂ (λ (x y : Read). alikeSigns (signOf x) (signOf y)) p q)
+module _ (a b : Read) where
+  pub both-atoms : (o m p n : ℕ) → a ≡ AtomOf o m → b ≡ AtomOf p n → (r : Bool) → r ≡ alikeAtoms (atomOf o m) (atomOf p n) → r ≡ alikeSigns (signOf a) (signOf b)
+  both-atoms o m p n e f r h = h ∙ sym (ap₂ (λ (x y : Read). alikeSigns (signOf x) (signOf y)) e f)
 
-  pub both-words : a ≡ Word m → b ≡ Word n → eqb m n ≡ alikeSigns (signOf a) (signOf b)
-  both-words p q = sym (ap₂ (λ (x y : Read). alikeSigns (signOf x) (signOf y)) p q)
+  pub both-words : (m n : ℕ) → a ≡ Word m → b ≡ Word n → eqb m n ≡ alikeSigns (signOf a) (signOf b)
+  both-words m n e f = sym (ap₂ (λ (x y : Read). alikeSigns (signOf x) (signOf y)) e f)
 
-  pub atom-word : a ≡ Atom m → b ≡ Word n → false ≡ alikeSigns (signOf a) (signOf b)
-  atom-word p q = sym (ap₂ (λ (x y : Read). alikeSigns (signOf x) (signOf y)) p q)
+  pub atom-word : (o m n : ℕ) → a ≡ AtomOf o m → b ≡ Word n → false ≡ alikeSigns (signOf a) (signOf b)
+  atom-word o m n e f = sym (ap₂ (λ (x y : Read). alikeSigns (signOf x) (signOf y)) e f)
 
-  pub word-atom : a ≡ Word m → b ≡ Atom n → false ≡ alikeSigns (signOf a) (signOf b)
-  word-atom p q = sym (ap₂ (λ (x y : Read). alikeSigns (signOf x) (signOf y)) p q)
+  pub word-atom : (m p n : ℕ) → a ≡ Word m → b ≡ AtomOf p n → false ≡ alikeSigns (signOf a) (signOf b)
+  word-atom m p n e f = sym (ap₂ (λ (x y : Read). alikeSigns (signOf x) (signOf y)) e f)
 
 -- ---- two texts
 pub text-start : (ops nums : List ℕ) (m n : ℕ) (c d : Cursor) → agree (rest ops nums c m) (rest ops nums d n) ≡ agree (rest ops nums c m) (rest ops nums d n)
@@ -110,7 +126,8 @@ module _ (ops nums : List ℕ) (m n : ℕ) (c₀ d₀ c d : Cursor) (inv : agree
       text-differs w = sym (by-signs ∙ ap (λ (v : Bool). v && agree (rest ops nums c′ m) (rest ops nums d′ n)) w)
 
 -- a sign less is left behind it
-pub text-less : (ops nums : List ℕ) (m : ℕ) (c : Cursor) (x : Next) → rest ops nums c m ≡ taken ops nums m x → (s : Read) (c′ : Cursor) → x ≡ Here s c′ → length (rest ops nums c′ m) < length (rest ops nums c m)
+pub text-less : (ops nums : List ℕ) (m : ℕ) (c : Cursor) (x : Next) → rest ops nums c m ≡ taken ops nums m x → (s : Read) (c′ : Cursor) → x ≡ Here s c′
+    → length (rest ops nums c′ m) < length (rest ops nums c m)
 text-less ops nums m c x p s c′ e =
     let z : length (rest ops nums c m) ≡ suc (length (rest ops nums c′ m)) = ap length (p ∙ ap (taken ops nums m) e) in
     omega arith

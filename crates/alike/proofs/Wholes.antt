@@ -15,6 +15,7 @@ use Rattle.formula.specs.Spells.{run, Spells}
 use Rattle.formula.specs.Formula.{Formula}
 use Rattle.formula.specs.Table.{Rule, ruleOf, isSome, roomy}
 use Rattle.formula.proofs.Trees.{prefix-length, spells-run}
+use Rattle.formula.proofs.Nodes.{known-at}
 use Rattle.formula.proofs.Rules.{rule-inv}
 use Rattle.monitor.specs.declared.node.Row.{Row}
 use Rattle.monitor.specs.Mon.{Check, Mon}
@@ -23,7 +24,7 @@ use Rattle.monitor.proofs.Holds.{HoldsTree, held-inv}
 use Rattle.alike.specs.declared.Part.{Part}
 use Rattle.alike.specs.Alike.{alikeMon, partOf, likened, likenessCall, alikeSome}
 use Rattle.alike.specs.Rows.{alikeCell, alikeCells, Shows, IsShown, SameRow, IsCompiled}
-use Rattle.alike.proofs.Matches.{trees-alike, lengths-differ, known-at, cell-shown}
+use Rattle.alike.proofs.Matches.{trees-alike, lengths-differ, cell-shown}
 
 -- ---- a compiled rule in the tables
 module _ (ops nums nodes : List ℕ) where
@@ -57,7 +58,8 @@ module _ (ops nums nodes : List ℕ) where
       (cell-shown ops nums (a .first) (a .count) (h .formula) (rule-inv ops nums (a .first) (a .count) (h .formula) r) (rowOf nodes i) (λ z. n (e ∙ z)))
 
   -- the rules are alike where their rows are
-  by-cells : (a b : Part) → IsCompiled ops nums nodes a → IsCompiled ops nums nodes b → alikeSome (partOf ops nums nodes a) (partOf ops nums nodes b) ≡ alikeCells (run (cellsOf a) (a .nfirst) (a .ncount)) (run (cellsOf b) (b .nfirst) (b .ncount))
+  by-cells : (a b : Part) → IsCompiled ops nums nodes a → IsCompiled ops nums nodes b
+      → alikeSome (partOf ops nums nodes a) (partOf ops nums nodes b) ≡ alikeCells (run (cellsOf a) (a .nfirst) (a .ncount)) (run (cellsOf b) (b .nfirst) (b .ncount))
   by-cells a b u w =
       let h = held a u in
       let g = held b w in
@@ -120,7 +122,8 @@ module _ (ops nums nodes : List ℕ) where
     by-rows : alikeSome (partOf ops nums nodes a) (partOf ops nums nodes b) ≡ alikeCells (run (cellsOf a) (a .nfirst) (a .ncount)) (run (cellsOf b) (b .nfirst) (a .ncount))
     by-rows = by-cells a b u w ∙ ap (λ (n : ℕ). alikeCells (run (cellsOf a) (a .nfirst) (a .ncount)) (run (cellsOf b) (b .nfirst) n)) (sym e)
 
-    pub row-differs : Agreed (a .ncount) (a .nfirst) (b .nfirst) k → k < a .ncount → (r : Bool) → SameRow ops nums (rowOf nodes (a .nfirst + k)) (rowOf nodes (b .nfirst + k)) r → r ≡ false → false ≡ alikeSome (partOf ops nums nodes a) (partOf ops nums nodes b)
+    pub row-differs : Agreed (a .ncount) (a .nfirst) (b .nfirst) k → k < a .ncount → (r : Bool) → SameRow ops nums (rowOf nodes (a .nfirst + k)) (rowOf nodes (b .nfirst + k)) r
+        → r ≡ false → false ≡ alikeSome (partOf ops nums nodes a) (partOf ops nums nodes b)
     row-differs v h r x z = sym
         (by-rows
         ∙ one-row (a .ncount) (a .nfirst) (b .nfirst) k v h r x (cellsOf a) (cellsOf b) (shown-at a u) shown-second

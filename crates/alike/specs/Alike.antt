@@ -11,12 +11,12 @@ use lib.ListN.{length}
 use Rattle.terms.specs.Limits.{nodeCells}
 use Rattle.result.specs.Result.{Result, given, refused, orElse}
 use Rattle.formula.specs.Table.{roomy}
-use Rattle.formula.specs.Text.{alikeText}
 use Rattle.monitor.specs.declared.range.End.{End}
 use Rattle.monitor.specs.declared.range.End.the-variants.{Step, Open}
 use Rattle.monitor.specs.declared.range.AnchorRange.{AnchorRange}
 use Rattle.monitor.specs.Mon.{Signal, always-true, at, Check, range-check, delayed-check, obligation, Mon, check, And, Or}
 use Rattle.monitor.specs.Table.{compiledOf}
+use Rattle.alike.specs.Text.{alikeText}
 use Rattle.alike.specs.declared.Likeness.{Likeness}
 use Rattle.alike.specs.declared.Likeness.the-variants.{Alike, Unlike, Refused}
 use Rattle.alike.specs.declared.Part.{Part}

@@ -6,36 +6,42 @@ use mathlib.Core.Bool.{Bool, true, false}
 use mathlib.Core.List.{List, [], _∷_, _++_}
 use mathlib.Core.Path.{_≡_}
 use Prim.Native.Nat.{ℕ, zero, suc, _+_, _-_, _≤_}
-use lib.Dec.{ltb}
+use lib.Dec.{eqb, ltb}
 use lib.ListN.{length, getD}
 use Rattle.terms.specs.Choice.{pick}
+use Rattle.terms.specs.Ops.{varOp, inOp, notOp, nextOp, orOp, impliesOp}
 use Rattle.formula.specs.Tree.{size}
 use Rattle.formula.specs.Spells.{Spells}
-use Rattle.formula.specs.Formula.{Formula, var}
+use Rattle.formula.specs.Formula.{Atom, Formula, var, input, output}
 use Rattle.formula.specs.Table.{nodeAt}
 use Rattle.formula.specs.Pure.{pure}
-use Rattle.formula.specs.Text.{Sign, atom, sign, alikeText}
+use Rattle.formula.specs.Text.{Sign, atom, sign}
 use Rattle.monitor.specs.declared.node.SignalExpr.{SignalExpr}
 use Rattle.monitor.specs.Mon.{Signal, always-true, at, exprOf}
+use Rattle.alike.specs.Text.{alikeText}
 use Rattle.alike.specs.Alike.{alikeSignal}
 use Rattle.alike.specs.declared.text.Sign.{Sign as Read}
-use Rattle.alike.specs.declared.text.Sign.the-variants.{Atom, Word}
+use Rattle.alike.specs.declared.text.Sign.the-variants.{Atom as AtomOf, Word}
 use Rattle.alike.specs.declared.text.Cursor.{Cursor}
 use Rattle.alike.specs.declared.text.Next.{Next}
 use Rattle.alike.specs.declared.text.Next.the-variants.{Here, End}
 
--- a sign as the code reads it: every atom by the one letter v
+-- an atom by its operation and number
+abbrev pub atomOf : ℕ → ℕ → Atom
+atomOf op n = pick (eqb op varOp) (var n) (pick (eqb op inOp) (input n) (output n))
+
+-- a sign as the code reads it
 abbrev pub signOf : Read → Sign
-signOf (Atom n) = atom (var n)
+signOf (AtomOf op n) = atom (atomOf op n)
 signOf (Word b) = sign b
 
 -- the signs of one place of a pure formula, by its operation and number
 abbrev pub signsAt : ℕ → ℕ → List Sign
 signsAt op n =
-    pick (ltb op 3) (atom (var n) ∷ [])
-    (pick (ltb op 4) (sign 33 ∷ [])
-    (pick (ltb op 10) (sign 38 ∷ [])
-    (pick (ltb op 11) (sign 124 ∷ []) (sign 124 ∷ sign 33 ∷ []))))
+    pick (ltb op notOp) (atom (atomOf op n) ∷ [])
+    (pick (ltb op nextOp) (sign 33 ∷ [])
+    (pick (ltb op orOp) (sign 38 ∷ [])
+    (pick (ltb op impliesOp) (sign 124 ∷ []) (sign 124 ∷ sign 33 ∷ []))))
 
 -- the signs of n places from i on
 unfoldable pub signsFrom : List ℕ → List ℕ → ℕ → ℕ → List Sign

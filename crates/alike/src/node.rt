@@ -9,6 +9,7 @@ use monitor::range::End;
 ghost use mathlib.Core.Path.{_≡_};
 ghost use Prim.Native.Nat.{_+_, _*_, _≤_};
 ghost use lib.ListN.{length};
+ghost use Rattle.terms.specs.Limits.{rowCells};
 ghost use Rattle.monitor.specs.Table.{rowOf};
 ghost use Rattle.alike.specs.Alike.{alikeRange, alikeSome, partOf};
 ghost use Rattle.alike.specs.Rows.{IsShown, SameRow, IsCompiled};
@@ -117,7 +118,7 @@ fn same_node(ops: &[u8], nums: &[u64], m: MonNode, n: MonNode) -> bool
 
 // Whether the nodes in rows i and j agree.
 fn same_row(ops: &[u8], nums: &[u64], nodes: &[u64], i: usize, j: usize) -> bool
-    requires { ⌜ (7 * (i + 1) ≤ length (now nodes)) × (7 * (j + 1) ≤ length (now nodes)) × IsShown (now ops) (now nums) (rowOf (now nodes) i)
+    requires { ⌜ (rowCells * (i + 1) ≤ length (now nodes)) × (rowCells * (j + 1) ≤ length (now nodes)) × IsShown (now ops) (now nums) (rowOf (now nodes) i)
         × IsShown (now ops) (now nums) (rowOf (now nodes) j) ⌝ }
     ensures { λ r. ⌜ SameRow (now (ops .entry)) (now (nums .entry)) (rowOf (now (nodes .entry)) i) (rowOf (now (nodes .entry)) j) r ⌝ }
 {
@@ -133,7 +134,8 @@ fn same_row(ops: &[u8], nums: &[u64], nodes: &[u64], i: usize, j: usize) -> bool
 // Whether two compiled rules are alike.
 pub fn same_nodes(ops: &[u8], nums: &[u64], nodes: &[u64], a: Part, b: Part) -> bool
     requires { ⌜ IsCompiled (now ops) (now nums) (now nodes) a × IsCompiled (now ops) (now nums) (now nodes) b ⌝ }
-    ensures { λ r. ⌜ r ≡ alikeSome (partOf (now (ops .entry)) (now (nums .entry)) (now (nodes .entry)) a) (partOf (now (ops .entry)) (now (nums .entry)) (now (nodes .entry)) b) ⌝ }
+    ensures { λ r. ⌜ r ≡ alikeSome (partOf (now (ops .entry)) (now (nums .entry)) (now (nodes .entry)) a)
+        (partOf (now (ops .entry)) (now (nums .entry)) (now (nodes .entry)) b) ⌝ }
 {
     let n = a.ncount;
     if n != b.ncount {

@@ -1,5 +1,5 @@
 // Two signals' texts, compared sign by sign off the formula table.
-use formula::signal::pure_at;
+use formula::signal::boolean_over_atoms;
 use formula::table::Walk;
 use monitor::node::SignalExpr;
 use terms::op::IMPLIES;
@@ -9,12 +9,12 @@ use terms::op::OR;
 ghost use mathlib.Core.Path.{_≡_};
 ghost use Prim.Native.Nat.{_+_, _≤_};
 ghost use lib.ListN.{length};
-ghost use Rattle.formula.specs.Text.{alikeSigns, agree};
-ghost use Rattle.alike.specs.Signs.{signOf, rest, taken, IsSpelt, LikenedAt, IsMeant, Likened};
+ghost use Rattle.alike.specs.Text.{alikeAtoms, alikeSigns, agree};
+ghost use Rattle.alike.specs.Signs.{atomOf, signOf, rest, taken, IsSpelt, LikenedAt, IsMeant, Likened};
 
-// A sign of a text: an atom's signal, whatever its letter, or a word's byte.
+// A sign of a text: an atom by its operation and signal, or a word's byte.
 pub enum Sign {
-    Atom(u64),
+    Atom(u8, u64),
     Word(u8),
 }
 
@@ -49,7 +49,7 @@ fn sign_at(ops: &[u8], nums: &[u64], c: Cursor, end: usize) -> Next
         owes: false,
     };
     if op < NOT {
-        return Next::Here(Sign::Atom(nums[at]), behind);
+        return Next::Here(Sign::Atom(op, nums[at]), behind);
     }
     if op < NEXT {
         return Next::Here(Sign::Word(b'!'), behind);
@@ -69,16 +69,23 @@ fn sign_at(ops: &[u8], nums: &[u64], c: Cursor, end: usize) -> Next
     )
 }
 
+// Whether two atoms are alike: both read the same signal, whatever their letters.
+fn same_atom(o: u8, m: u64, p: u8, n: u64) -> bool
+    ensures { λ r. ⌜ r ≡ alikeAtoms (atomOf o m) (atomOf p n) ⌝ }
+{
+    m == n
+}
+
 // Whether two signs are alike.
 fn same_sign(a: Sign, b: Sign) -> bool
     ensures { λ r. ⌜ r ≡ alikeSigns (signOf a) (signOf b) ⌝ }
 {
     match a {
-        Sign::Atom(m) => {
-            let Sign::Atom(n) = b else {
+        Sign::Atom(o, m) => {
+            let Sign::Atom(p, n) = b else {
                 return false;
             };
-            return m == n;
+            return same_atom(o, m, p, n);
         }
         Sign::Word(v) => {
             let Sign::Word(w) = b else {
@@ -122,10 +129,10 @@ fn same_at(ops: &[u8], nums: &[u64], p: usize, q: usize) -> bool
     requires { ⌜ IsSpelt (now ops) (now nums) p × IsSpelt (now ops) (now nums) q ⌝ }
     ensures { λ r. ⌜ LikenedAt (now (ops .entry)) (now (nums .entry)) p q r ⌝ }
 {
-    let Walk::Upto(e) = pure_at(ops, nums, p) else {
+    let Walk::Upto(e) = boolean_over_atoms(ops, nums, p) else {
         return false;
     };
-    let Walk::Upto(f) = pure_at(ops, nums, q) else {
+    let Walk::Upto(f) = boolean_over_atoms(ops, nums, q) else {
         return false;
     };
     let a = Cursor { at: p, owes: false };

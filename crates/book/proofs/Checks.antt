@@ -14,11 +14,11 @@ use lib.ListN.{length, getD, take, drop, length-drop, drop-of-length-le}
 use lib.Seq.{drop-drop, length-take-le}
 use Rattle.terms.specs.Choice.{pick}
 use Rattle.line.specs.Text.{lines, parts, firstAt, Found}
-use Rattle.line.specs.Line.{Line, bad, rule, wrong-rule, node, wrong-node, step, wrong-step, parse}
+use Rattle.line.specs.Line.{Line, bad, wrong, right, rule, node, step, parse}
 use Rattle.line.specs.Means.{means}
 use Rattle.line.specs.declared.line.Line as code
 use Rattle.line.proofs.Parts.{lines-next}
-use Rattle.book.specs.Book.{Book, empty, isNil, whole, Fault, numberOf, fault, add, Outcome, accepted, refused, BookResult, contents, refusal, bookResult, unless, readOn, ended, read}
+use Rattle.book.specs.Book.{Book, empty, isNil, whole, Fault, numberOf, fault, add, addLine, Outcome, accepted, refused, BookResult, contents, refusal, bookResult, unless, readOn, ended, read}
 use Rattle.book.specs.Checked.{resultOf, Lined, Small, HoldsBook, Agrees, TakesLine}
 use Rattle.book.specs.declared.state.State.{State}
 use Rattle.book.specs.declared.state.Taken.{Taken}
@@ -66,7 +66,13 @@ pub run-first : (text : List ℕ) (s : State) → Lined text → HoldsBook empty
 run-first text s t h = record { book = empty; holds = h; same = refl; lined = t; near = omega arith; counted = omega arith; head = omega (arith, h .head) }
 
 -- one line more of a text
-pub read-line : (b : Book) (k : ℕ) (text rest first : List ℕ) (at n : ℕ) → ended text ≡ true → at < length text → rest ≡ drop at text → Found 10 rest n → first ≡ take n rest → readOn b k (lines (drop at text)) ≡ unless (fault b (parse first)) k (readOn (add (n + 1) b (parse first)) (k + 1) (lines (drop (at + (n + 1)) text)))
+pub read-line : (b : Book) (k : ℕ) (text rest first : List ℕ) (at n : ℕ)
+    → ended text ≡ true
+    → at < length text
+    → rest ≡ drop at text
+    → Found 10 rest n
+    → first ≡ take n rest
+    → readOn b k (lines (drop at text)) ≡ unless (fault b (parse first)) k (readOn (addLine (n + 1) b (parse first)) (k + 1) (lines (drop (at + (n + 1)) text)))
 unfolding readOn
 read-line b k text rest first at n d h e f e′ =
     let long : 1 ≤ length rest = subst (λ (l : List ℕ). 1 ≤ length l) (sym e) (omega (arith, length-drop at text)) in
@@ -77,15 +83,13 @@ read-line b k text rest first at n d h e f e′ =
     let all : lines (drop at text) ≡ first ∷ lines (drop (at + (n + 1)) text) = ap lines (sym e) ∙ cut ∙ ap₂ _∷_ (sym e′) (ap lines go) in
     rw (all, size) refl
 
-head-grows : (n : ℕ) (b : Book) (l : Line) → add n b l .head ≤ b .head + n
+head-grows : (n : ℕ) (b : Book) (l : Line) → addLine n b l .head ≤ b .head + n
 unfolding add
 head-grows n b bad = omega arith
-head-grows n b (rule l k) = omega arith
-head-grows n b wrong-rule = omega arith
-head-grows n b (node op v) = omega arith
-head-grows n b wrong-node = omega arith
-head-grows n b (step s w) = omega arith
-head-grows n b wrong-step = omega arith
+head-grows n b (wrong o f) = omega arith
+head-grows n b (right (rule l k)) = omega arith
+head-grows n b (right (node op v)) = omega arith
+head-grows n b (right (step s w)) = omega arith
 
 next-inj : {s s′ : State} → Next s ≡ Next s′ → s ≡ s′
 next-inj e = cc
@@ -96,17 +100,26 @@ faulty-inj e = cc
 next-faulty : {s : State} {k : ℕ} {B : Type 0} → Next s ≡ Faulty k → B
 next-faulty e = let z : _≡_ {A = ℕ} 0 1 = cc in absurd (omega arith)
 
-module _ (text : List ℕ) (s : State) (at line n : ℕ) (rest first : List ℕ) (l : code.Line) (r : Taken) (v : Run text s at line) (h : at < length text) (e : rest ≡ drop at text) (f : Found 10 rest n) (e′ : first ≡ take n rest) (m : means first l ≡ parse first) (t : TakesLine s l (n + 1) r) where
-  agrees : Agrees (n + 1) (v .book) (parse first) (fault (v .book) (parse first)) r
-  agrees = subst (λ (p : Line). Agrees (n + 1) (v .book) p (fault (v .book) p) r) m (t .is first .is (v .book) (v .holds))
+module _ (text : List ℕ) (s : State) (at line n : ℕ) (rest first : List ℕ) (l : code.Line) (r : Taken)
+    (v : Run text s at line) (h : at < length text) (e : rest ≡ drop at text) (f : Found 10 rest n)
+    (e′ : first ≡ take n rest) (m : means first l ≡ parse first) (t : TakesLine s l (n + 1) r) where
+  -- the book with the line added, and what the lines behind it make of that
+  abbrev next : Book
+  next = addLine (n + 1) (v .book) (parse first)
 
-  on : readOn empty 0 (lines text) ≡ unless (fault (v .book) (parse first)) line (readOn (add (n + 1) (v .book) (parse first)) (line + 1) (lines (drop (at + (n + 1)) text)))
+  abbrev then : Outcome
+  then = readOn next (line + 1) (lines (drop (at + (n + 1)) text))
+
+  agrees : Agrees (n + 1) (v .book) (parse first) (fault (v .book) (parse first)) r
+  agrees = subst (λ (p : Line). Agrees (n + 1) (v .book) p (fault (v .book) p) r) m (t .is first (v .book) (v .holds))
+
+  on : readOn empty 0 (lines text) ≡ unless (fault (v .book) (parse first)) line then
   on = v .same ∙ read-line (v .book) line text rest first at n (v .lined .ends) h e f e′
 
   pub turn-fault : (k : ℕ) → r ≡ Faulty k → resultOf (Refused k (line + 1)) ≡ bookResult (readOn empty 0 (lines text))
   turn-fault k q = sym (ap bookResult on ∙ go (fault (v .book) (parse first)) agrees)
     where
-      go : (o : Option Fault) → Agrees (n + 1) (v .book) (parse first) o r → bookResult (unless o line (readOn (add (n + 1) (v .book) (parse first)) (line + 1) (lines (drop (at + (n + 1)) text)))) ≡ refusal k (line + 1)
+      go : (o : Option Fault) → Agrees (n + 1) (v .book) (parse first) o r → bookResult (unless o line then) ≡ refusal k (line + 1)
       go none a = next-faulty (sym (a .1) ∙ q)
       go (some x) a = ap (λ (i : ℕ). refusal i (line + 1)) (faulty-inj (sym a ∙ q))
 
@@ -119,11 +132,11 @@ module _ (text : List ℕ) (s : State) (at line n : ℕ) (rest first : List ℕ)
       go : (o : Option Fault) → fault (v .book) (parse first) ≡ o → Agrees (n + 1) (v .book) (parse first) o r → Run text s′ (at + (n + 1)) (line + 1)
       go none p a =
           let u : a .0 ≡ s′ = next-inj (sym (a .1) ∙ q) in
-          let hd : s′ .head ≡ add (n + 1) (v .book) (parse first) .head = subst (λ (x : State). x .head ≡ add (n + 1) (v .book) (parse first) .head) u (a .2 .head) in
+          let hd : s′ .head ≡ next .head = subst (λ (x : State). x .head ≡ next .head) u (a .2 .head) in
           record {
-            book = add (n + 1) (v .book) (parse first);
-            holds = subst (HoldsBook (add (n + 1) (v .book) (parse first))) u (a .2);
-            same = on ∙ ap (λ (x : Option Fault). unless x line (readOn (add (n + 1) (v .book) (parse first)) (line + 1) (lines (drop (at + (n + 1)) text)))) p;
+            book = next;
+            holds = subst (HoldsBook next) u (a .2);
+            same = on ∙ ap (λ (x : Option Fault). unless x line then) p;
             lined = v .lined;
             near = omega (arith, rest-short);
             counted = omega (arith, v .counted);

@@ -78,7 +78,8 @@ module _ (op depth bits : ℕ) (at : 1 ≤ depth) (s : Small depth bits) where
   unfolding spend dueOf
   due-leaf r h d =
       let (e, p) = root in
-      record { is = subst (λ (n : ℕ). spend op (dueOf n bits) ≡ dueOf (r .depth) (r .bits)) (sym p) (rw (lt-ltb op 3 h) (subst (λ (n : ℕ). depths n bits ≡ dueOf (r .depth) (r .bits)) p (d .is))); small = d .small }
+      let there : depths (suc e) bits ≡ dueOf (r .depth) (r .bits) = subst (λ (n : ℕ). depths n bits ≡ dueOf (r .depth) (r .bits)) p (d .is) in
+      record { is = subst (λ (n : ℕ). spend op (dueOf n bits) ≡ dueOf (r .depth) (r .bits)) (sym p) (rw (lt-ltb op 3 h) there); small = d .small }
 
   fits-more : depth ≤ 64 → 2 * (bits * 2 + 1) < 2 ^ (depth + 1)
   fits-more h = subst (λ (n : ℕ). 2 * (bits * 2 + 1) < 2 ^ n) (sym (add-one depth)) (rw (pow-succ' 2 depth) (let q : 2 * bits + 2 ≤ 2 ^ depth = even-gap depth bits at (s .fits) in omega arith))
@@ -91,10 +92,10 @@ module _ (op depth bits : ℕ) (at : 1 ≤ depth) (s : Small depth bits) where
   unfolding spend dueOf depths
   due-one g h k =
       let (e, p) = root in
-      let even : bits * 2 % 2 ≡ 0 = omega arith in
+      let even : eqb (bits * 2 % 2) 1 ≡ false = ne-eqb (bits * 2 % 2) 1 (λ (y : bits * 2 % 2 ≡ 1). omega arith) in
       let half : bits * 2 / 2 ≡ bits = omega arith in
       record {
-        is = rw (add-one) (subst (λ (n : ℕ). spend op (dueOf n bits) ≡ dueOf (suc n) (bits * 2)) (sym p) (rw (le-ltb op 3 g, lt-ltb op 9 h, ne-eqb (bits * 2 % 2) 1 (λ (y : bits * 2 % 2 ≡ 1). omega arith), half) refl));
+        is = rw (add-one) (subst (λ (n : ℕ). spend op (dueOf n bits) ≡ dueOf (suc n) (bits * 2)) (sym p) (rw (le-ltb op 3 g, lt-ltb op 9 h, even, half) refl));
         small = record { low = omega arith; fits = omega (arith, fits-more k) };
       }
 
@@ -102,10 +103,10 @@ module _ (op depth bits : ℕ) (at : 1 ≤ depth) (s : Small depth bits) where
   unfolding spend dueOf depths
   due-two g k =
       let (e, p) = root in
-      let odd : (bits * 2 + 1) % 2 ≡ 1 = omega arith in
+      let odd : eqb ((bits * 2 + 1) % 2) 1 ≡ true = eq-eqb ((bits * 2 + 1) % 2) 1 (omega arith) in
       let half : (bits * 2 + 1) / 2 ≡ bits = omega arith in
       record {
-        is = rw (add-one) (subst (λ (n : ℕ). spend op (dueOf n bits) ≡ dueOf (suc n) (bits * 2 + 1)) (sym p) (rw (le-ltb op 3 (omega arith), le-ltb op 9 g, eq-eqb ((bits * 2 + 1) % 2) 1 odd, half) refl));
+        is = rw (add-one) (subst (λ (n : ℕ). spend op (dueOf n bits) ≡ dueOf (suc n) (bits * 2 + 1)) (sym p) (rw (le-ltb op 3 (omega arith), le-ltb op 9 g, odd, half) refl));
         small = record { low = omega arith; fits = fits-more k };
       }
 

@@ -6,16 +6,25 @@ use mathlib.Core.Option.{Option, none, some}
 use Prim.Native.Nat.{ℕ, zero, suc, _+_, _-_, _*_, _^_, _≤_, _<_}
 use native.Mathlib.Omega.{arith}
 use native.Mathlib.Numerals.{add-one}
-use borrow.Author.Tests.{lt-ltb, le-ltb, le-leb, lt-leb}
-use lib.Dec.{ltb, leb}
-use lib.ListN.{length, length-append}
+use borrow.Author.Tests.{ne-eqb, lt-ltb, le-ltb, ltb-true, leb-true}
+use mir.Syntax.{w64}
+use mir.Val.{Fits}
+use lib.Dec.{eqb, ltb, leb}
+use lib.ListN.{length, take, drop, length-append}
+use Rattle.terms.specs.Limits.{bookNodes, bookRules, deepest, ruleNodes}
 use Rattle.terms.specs.Choice.{pick}
-use Rattle.line.specs.Line.{Line, bad, rule, wrong-rule, node, wrong-node, step, wrong-step}
-use Rattle.line.specs.Means.{means}
-use Rattle.line.specs.declared.line.Line as code
+use Rattle.line.specs.Line.{Line, bad, wrong, right, sortOf, rule, node, step, flawNumber}
+use Rattle.line.specs.Means.{held, sortIn, means}
+use Rattle.line.specs.declared.line.Sort.{Sort}
+use Rattle.line.specs.declared.line.Sort.the-variants as sort
+use Rattle.line.specs.declared.line.Flaw.{Flaw}
+use Rattle.line.specs.declared.line.Content as code
+use Rattle.line.specs.declared.line.Content.the-variants as contents
+use Rattle.line.specs.declared.line.Line as code-line
 use Rattle.line.specs.declared.line.Line.the-variants as lines
-use Rattle.book.specs.Book.{Book, empty, isNil, whole, headOf, lastOf, bump, spend, Fault, numberOf, word, place, label, number, limit, passes, stands, within, labelled, numbered, firstFault, fault, add}
-use Rattle.book.specs.Checked.{dueOf, depths, Small, DueIs, HoldsBook, Agrees, Takes, TakesRule, TakesNode, TakesStep, TakesLine}
+use Rattle.line.proofs.Lines.{sort-held}
+use Rattle.book.specs.Book.{Book, empty, isNil, whole, headOf, lastOf, bump, spend, Fault, numberOf, word, place, field, limit, stands, within, firstFault, fault, add, addLine}
+use Rattle.book.specs.Checked.{dueOf, depths, Small, DueIs, HoldsBook, Inside, NodeRoom, Room, Stands, Within, Addable, Adds, Agrees, TakesLine}
 use Rattle.book.specs.declared.due.Due.{Due}
 use Rattle.book.specs.declared.state.State.{State}
 use Rattle.book.specs.declared.state.Taken.{Taken}
@@ -53,10 +62,6 @@ last-bump (c ∷ d ∷ e ∷ r) h = last-bump (d ∷ e ∷ r) (omega arith)
 nil-snoc : {A : Type 0} (l : List A) (a : A) → true ≡ not (isNil (l ++ a ∷ []))
 nil-snoc [] a = refl
 nil-snoc (b ∷ r) a = refl
-
-pick-same : (t : Bool) (f : Fault) → pick t (some f) (some f) ≡ some f
-pick-same true f = refl
-pick-same false f = refl
 
 module _ (b : Book) (s : State) (h : HoldsBook b s) where
   pub inside : 0 < s .depth → whole b ≡ false
@@ -97,102 +102,95 @@ module _ (b : Book) (s : State) (h : HoldsBook b s) where
       go true e = refl
       go false e = sym e
 
-  -- ---- which test fails first
-  rule-inside : (l : List ℕ) (k : ℕ) → 0 < s .depth → fault b (rule l k) ≡ some place
-  unfolding fault firstFault passes stands
-  rule-inside l k d = rw (inside d) refl
+  whole-is : eqb (s .depth) 0 ≡ whole b
+  unfolding dueOf
+  whole-is = go (s .depth) ∙ sym (ap isNil (h .due))
+    where
+      go : (d : ℕ) → eqb d 0 ≡ isNil (dueOf d (s .bits))
+      go zero = refl
+      go (suc d) = ne-eqb (suc d) 0 (λ (z : suc d ≡ 0). omega arith)
 
-  rule-late : (l : List ℕ) (k : ℕ) → s .depth ≤ 0 → s .stepping ≡ true → fault b (rule l k) ≡ some place
-  unfolding fault firstFault passes stands
-  rule-late l k d t = rw (outside d, steps-come t) refl
+inside-is : (d : ℕ) → ltb 0 d ≡ not (eqb d 0)
+inside-is zero = refl
+inside-is (suc d) = lt-ltb 0 (suc d) (omega arith) ∙ ap not (sym (ne-eqb (suc d) 0 (λ (z : suc d ≡ 0). omega arith)))
 
-  rule-many : (l : List ℕ) (k : ℕ) → s .depth ≤ 0 → s .stepping ≡ false → 64 ≤ s .rules → fault b (rule l k) ≡ some limit
-  unfolding fault firstFault passes stands labelled numbered within
-  rule-many l k d t m = rw (outside d, no-steps t, le-ltb (length (b .labels)) 64 (subst (λ (n : ℕ). 64 ≤ n) (h .rules) m)) refl
+-- ---- the tests by a line's sort
+module _ (s : State) (o : Sort) where
+  pub late-rule : o ≡ sort.Rule → s .stepping ≡ true → Stands s o false
+  unfolding stands
+  late-rule e t = record {
+    is = λ b h. rw (e, steps-come b s h t) (and-false (whole b));
+    inside = λ z. false-true (sym z);
+  }
+    where
+      and-false : (t : Bool) → false ≡ (t && false)
+      and-false true = refl
+      and-false false = refl
 
-  rule-right : (l : List ℕ) (k : ℕ) → s .depth ≤ 0 → s .stepping ≡ false → s .rules < 64 → fault b (rule l k) ≡ none
-  unfolding fault firstFault passes stands labelled numbered within
-  rule-right l k d t m = rw (outside d, no-steps t, lt-ltb (length (b .labels)) 64 (subst (λ (n : ℕ). n < 64) (h .rules) m)) refl
+  pub rule-stands : o ≡ sort.Rule → s .stepping ≡ false → Stands s o (eqb (s .depth) 0)
+  unfolding stands
+  rule-stands e t = record {
+    is = λ b h. whole-is b s h ∙ rw (e, no-steps b s h t) (and-true (whole b));
+    inside = λ _. rw e tt;
+  }
+    where
+      and-true : (t : Bool) → t ≡ (t && true)
+      and-true true = refl
+      and-true false = refl
 
-  wrong-rule-inside : 0 < s .depth → fault b wrong-rule ≡ some place
-  unfolding fault firstFault passes stands
-  wrong-rule-inside d = rw (inside d) refl
+  pub node-stands : o ≡ sort.Node → Stands s o (ltb 0 (s .depth))
+  unfolding stands
+  node-stands e = record {
+    is = λ b h. inside-is (s .depth) ∙ rw e (ap not (whole-is b s h));
+    inside = λ z. rw e (ltb-true 0 (s .depth) z);
+  }
 
-  wrong-rule-late : s .depth ≤ 0 → s .stepping ≡ true → fault b wrong-rule ≡ some place
-  unfolding fault firstFault passes stands
-  wrong-rule-late d t = rw (outside d, steps-come t) refl
+  pub step-stands : o ≡ sort.Step → Stands s o (eqb (s .depth) 0)
+  unfolding stands
+  step-stands e = record { is = λ b h. rw e (whole-is b s h); inside = λ _. rw e tt }
 
-  wrong-rule-label : s .depth ≤ 0 → s .stepping ≡ false → fault b wrong-rule ≡ some label
-  unfolding fault firstFault passes stands labelled
-  wrong-rule-label d t = rw (outside d, no-steps t) refl
+  pub rule-within : o ≡ sort.Rule → Within s o (ltb (s .rules) bookRules)
+  unfolding within
+  rule-within e = record {
+    is = λ b h. rw e (ap (λ (n : ℕ). ltb n bookRules) (h .rules));
+    room = λ z. rw e (ltb-true (s .rules) bookRules z);
+  }
 
-  node-outside : (op v : ℕ) → s .depth ≡ 0 → fault b (node op v) ≡ some place
-  unfolding fault firstFault passes stands
-  node-outside op v d = rw (outside (omega arith)) refl
+  pub step-within : o ≡ sort.Step → Within s o true
+  unfolding within
+  step-within e = record { is = λ b h. rw e refl; room = λ _. rw e tt }
 
-  node-own : (op v : ℕ) → 0 < s .depth → 256 ≤ s .own → fault b (node op v) ≡ some limit
-  unfolding fault firstFault passes stands labelled numbered within
-  node-own op v d m = rw (inside d, le-ltb (lastOf (b .counts)) 256 (subst (λ (n : ℕ). 256 ≤ n) (h .own) m)) refl
+  module _ (e : o ≡ sort.Node) where
+    node-within : (r : Bool)
+        → r ≡ (ltb (s .own) ruleNodes && (ltb (s .nodes) bookNodes && leb (s .depth) deepest))
+        → (r ≡ true → NodeRoom s)
+        → Within s o r
+    unfolding within
+    node-within r q n = record { is = λ b h. rw (e, ← h .own, ← h .nodes, next-depth b s h) q; room = λ z. rw e (n z) }
 
-  node-many : (op v : ℕ) → 0 < s .depth → s .own < 256 → 1024 ≤ s .nodes → fault b (node op v) ≡ some limit
-  unfolding fault firstFault passes stands labelled numbered within
-  node-many op v d m n = rw (inside d, lt-ltb (lastOf (b .counts)) 256 (subst (λ (n : ℕ). n < 256) (h .own) m), le-ltb (length (b .ops)) 1024 (subst (λ (k : ℕ). 1024 ≤ k) (h .nodes) n)) refl
+    pub own-full : ruleNodes ≤ s .own → Within s o false
+    own-full m = node-within false (rw (le-ltb (s .own) ruleNodes m) refl) (λ z. false-true (sym z))
 
-  node-deep : (op v : ℕ) → 0 < s .depth → s .own < 256 → s .nodes < 1024 → 64 < s .depth → fault b (node op v) ≡ some limit
-  unfolding fault firstFault passes stands labelled numbered within
-  node-deep op v d m n p = rw (inside d, lt-ltb (lastOf (b .counts)) 256 (subst (λ (n : ℕ). n < 256) (h .own) m), lt-ltb (length (b .ops)) 1024 (subst (λ (k : ℕ). k < 1024) (h .nodes) n), lt-leb (headOf (b .due)) 64 (subst (λ (k : ℕ). 64 < k) (sym next-depth) p)) refl
+    module _ (m : s .own < ruleNodes) where
+      pub nodes-full : bookNodes ≤ s .nodes → Within s o false
+      nodes-full k = node-within false (rw (lt-ltb (s .own) ruleNodes m, le-ltb (s .nodes) bookNodes k) refl) (λ z. false-true (sym z))
 
-  node-right : (op v : ℕ) → 0 < s .depth → s .own < 256 → s .nodes < 1024 → s .depth ≤ 64 → fault b (node op v) ≡ none
-  unfolding fault firstFault passes stands labelled numbered within
-  node-right op v d m n p = rw (inside d, lt-ltb (lastOf (b .counts)) 256 (subst (λ (n : ℕ). n < 256) (h .own) m), lt-ltb (length (b .ops)) 1024 (subst (λ (k : ℕ). k < 1024) (h .nodes) n), le-leb (headOf (b .due)) 64 (subst (λ (k : ℕ). k ≤ 64) (sym next-depth) p)) refl
+      pub node-deep : s .nodes < bookNodes → Within s o (leb (s .depth) deepest)
+      node-deep k =
+          node-within (leb (s .depth) deepest) (rw (lt-ltb (s .own) ruleNodes m, lt-ltb (s .nodes) bookNodes k) refl)
+          (λ z. record { own = m; nodes = k; depth = leb-true (s .depth) deepest z })
 
-  wrong-node-outside : s .depth ≡ 0 → fault b wrong-node ≡ some place
-  unfolding fault firstFault passes stands
-  wrong-node-outside d = rw (outside (omega arith)) refl
+-- ---- what a line's content adds
+module _ (s : State) (c : code.Content) (n : ℕ) (a : Addable s c n) where
+  module _ (start len kind : ℕ) (e : c ≡ contents.Rule start len kind) where
+    pub rule-fits : Fits w64 (s .rules + 1)
+    rule-fits = let few : s .rules < bookRules = subst (λ (x : code.Content). Room s (sortIn x)) e (a .room) in record { fits = omega arith }
 
-  wrong-node-number : 0 < s .depth → fault b wrong-node ≡ some number
-  unfolding fault firstFault passes stands labelled numbered
-  wrong-node-number d = rw (inside d) refl
-
-  step-inside : (u w : ℕ) → 0 < s .depth → fault b (step u w) ≡ some place
-  unfolding fault firstFault passes stands
-  step-inside u w d = rw (inside d) refl
-
-  step-right : (u w : ℕ) → s .depth ≤ 0 → fault b (step u w) ≡ none
-  unfolding fault firstFault passes stands labelled numbered within
-  step-right u w d = rw (outside d) refl
-
-  wrong-step-inside : 0 < s .depth → fault b wrong-step ≡ some place
-  unfolding fault firstFault passes stands
-  wrong-step-inside d = rw (inside d) refl
-
-  wrong-step-number : s .depth ≤ 0 → fault b wrong-step ≡ some number
-  unfolding fault firstFault passes stands labelled numbered
-  wrong-step-number d = rw (outside d) refl
-
-faulty : (n : ℕ) (b : Book) (l : Line) (f : Fault) → fault b l ≡ some f → Agrees n b l (fault b l) (Faulty (numberOf f))
-faulty n b l f e = subst (λ (o : Option Fault). Agrees n b l o (Faulty (numberOf f))) (sym e) refl
-
-right : (n : ℕ) (b : Book) (l : Line) (s : State) → fault b l ≡ none → HoldsBook (add n b l) s → Agrees n b l (fault b l) (Next s)
-right n b l s e h = subst (λ (o : Option Fault). Agrees n b l o (Next s)) (sym e) (s, refl, h)
-
--- ---- one law for each return
-module _ (s : State) (n : ℕ) where
-  pub take-rule-inside : 0 < s .depth → TakesRule s n (Faulty 6)
-  take-rule-inside d = record { is = λ l k. record { is = λ b h. faulty n b (rule l k) place (rule-inside b s h l k d) } }
-
-  pub take-rule-late : s .depth ≤ 0 → s .stepping ≡ true → TakesRule s n (Faulty 6)
-  take-rule-late d t = record { is = λ l k. record { is = λ b h. faulty n b (rule l k) place (rule-late b s h l k d t) } }
-
-  pub take-rule-many : s .depth ≤ 0 → s .stepping ≡ false → 64 ≤ s .rules → TakesRule s n (Faulty 9)
-  take-rule-many d t m = record { is = λ l k. record { is = λ b h. faulty n b (rule l k) limit (rule-many b s h l k d t m) } }
-
-  pub take-rule-right : s .depth ≤ 0 → s .stepping ≡ false → s .rules < 64 → TakesRule s n (Next (record { rules = s .rules + 1; nodes = s .nodes; own = 0; depth = 1; bits = 0; stepping = s .stepping; head = s .head + n }))
-  unfolding add dueOf depths
-  take-rule-right d t m = record {
-    is = λ l k. record {
-      is = λ b h. right n b (rule l k) (record { rules = s .rules + 1; nodes = s .nodes; own = 0; depth = 1; bits = 0; stepping = s .stepping; head = s .head + n }) (rule-right b s h l k d t m) (record {
-        rules = ap (λ (x : ℕ). x + 1) (h .rules) ∙ snoc-length (b .labels) l;
+    pub adds-rule : Adds s c n (record { rules = s .rules + 1; nodes = s .nodes; own = 0; depth = 1; bits = 0; stepping = s .stepping; head = s .head + n })
+    unfolding add dueOf depths
+    adds-rule = record {
+      is = λ t b h. rw e (record {
+        rules = ap (λ (x : ℕ). x + 1) (h .rules) ∙ snoc-length (b .labels) (take len (drop start t));
         nodes = h .nodes;
         own = sym (last-snoc (b .counts) 0);
         due = refl;
@@ -201,106 +199,95 @@ module _ (s : State) (n : ℕ) where
         stepping = h .stepping;
         head = ap (λ (x : ℕ). x + n) (h .head);
       });
-    };
-  }
-
-  pub take-wrong-rule-inside : 0 < s .depth → Takes s wrong-rule n (Faulty 6)
-  take-wrong-rule-inside d = record { is = λ b h. faulty n b wrong-rule place (wrong-rule-inside b s h d) }
-
-  pub take-wrong-rule-late : s .depth ≤ 0 → s .stepping ≡ true → Takes s wrong-rule n (Faulty 6)
-  take-wrong-rule-late d t = record { is = λ b h. faulty n b wrong-rule place (wrong-rule-late b s h d t) }
-
-  pub take-wrong-rule-label : s .depth ≤ 0 → s .stepping ≡ false → Takes s wrong-rule n (Faulty 7)
-  take-wrong-rule-label d t = record { is = λ b h. faulty n b wrong-rule label (wrong-rule-label b s h d t) }
-
-  pub take-node-outside : (op : ℕ) → s .depth ≡ 0 → TakesNode s op n (Faulty 6)
-  take-node-outside op d = record { is = λ v. record { is = λ b h. faulty n b (node op v) place (node-outside b s h op v d) } }
-
-  module _ (op : ℕ) (d : s .depth ≡ 0 → ⊥) where
-    pub take-node-own : 256 ≤ s .own → TakesNode s op n (Faulty 9)
-    take-node-own m = record { is = λ v. record { is = λ b h. faulty n b (node op v) limit (node-own b s h op v (native.Mathlib.Nat.pos-of-ne-zero d) m) } }
-
-    pub take-node-many : s .own < 256 → 1024 ≤ s .nodes → TakesNode s op n (Faulty 9)
-    take-node-many m k = record { is = λ v. record { is = λ b h. faulty n b (node op v) limit (node-many b s h op v (native.Mathlib.Nat.pos-of-ne-zero d) m k) } }
-
-    pub take-node-deep : s .own < 256 → s .nodes < 1024 → 64 < s .depth → TakesNode s op n (Faulty 9)
-    take-node-deep m k p = record { is = λ v. record { is = λ b h. faulty n b (node op v) limit (node-deep b s h op v (native.Mathlib.Nat.pos-of-ne-zero d) m k p) } }
-
-    pub take-node-right : (r : Due) → s .own < 256 → s .nodes < 1024 → s .depth ≤ 64 → DueIs (spend op (dueOf (s .depth) (s .bits))) r → TakesNode s op n (Next (record { rules = s .rules; nodes = s .nodes + 1; own = s .own + 1; depth = r .depth; bits = r .bits; stepping = s .stepping; head = s .head + n }))
-    unfolding add
-    take-node-right r m k p u = record {
-      is = λ v. record {
-        is = λ b h. right n b (node op v) (record { rules = s .rules; nodes = s .nodes + 1; own = s .own + 1; depth = r .depth; bits = r .bits; stepping = s .stepping; head = s .head + n }) (node-right b s h op v (native.Mathlib.Nat.pos-of-ne-zero d) m k p) (record {
-          rules = h .rules;
-          nodes = ap (λ (x : ℕ). x + 1) (h .nodes) ∙ snoc-length (b .ops) op;
-          own = ap (λ (x : ℕ). x + 1) (h .own) ∙ sym (last-bump (b .counts) (h .begun (inside b s h (native.Mathlib.Nat.pos-of-ne-zero d))));
-          due = ap (spend op) (h .due) ∙ u .is;
-          small = u .small;
-          begun = λ _. subst (λ (x : ℕ). 1 ≤ x) (sym (bump-length (b .counts))) (h .begun (inside b s h (native.Mathlib.Nat.pos-of-ne-zero d)));
-          stepping = h .stepping;
-          head = ap (λ (x : ℕ). x + n) (h .head);
-        });
-      };
     }
 
-  pub take-wrong-node-outside : s .depth ≡ 0 → Takes s wrong-node n (Faulty 6)
-  take-wrong-node-outside d = record { is = λ b h. faulty n b wrong-node place (wrong-node-outside b s h d) }
+  module _ (op num : ℕ) (e : c ≡ contents.Node op num) where
+    pub node-in : 1 ≤ s .depth
+    node-in = subst (λ (x : code.Content). Inside s (sortIn x)) e (a .inside)
 
-  pub take-wrong-node-number : (s .depth ≡ 0 → ⊥) → Takes s wrong-node n (Faulty 8)
-  take-wrong-node-number d = record { is = λ b h. faulty n b wrong-node number (wrong-node-number b s h (native.Mathlib.Nat.pos-of-ne-zero d)) }
+    node-room : NodeRoom s
+    node-room = subst (λ (x : code.Content). Room s (sortIn x)) e (a .room)
 
-  pub take-step-inside : 0 < s .depth → TakesStep s n (Faulty 6)
-  take-step-inside d = record { is = λ u w. record { is = λ b h. faulty n b (step u w) place (step-inside b s h u w d) } }
+    pub nodes-fit : Fits w64 (s .nodes + 1)
+    nodes-fit = record { fits = omega (arith, node-room .nodes) }
 
-  pub take-step-right : s .depth ≤ 0 → TakesStep s n (Next (record { rules = s .rules; nodes = s .nodes; own = s .own; depth = s .depth; bits = s .bits; stepping = true; head = s .head }))
-  unfolding add
-  take-step-right d = record {
-    is = λ u w. record {
-      is = λ b h. right n b (step u w) (record { rules = s .rules; nodes = s .nodes; own = s .own; depth = s .depth; bits = s .bits; stepping = true; head = s .head }) (step-right b s h u w d) (record {
+    pub own-fits : Fits w64 (s .own + 1)
+    own-fits = record { fits = omega (arith, node-room .own) }
+
+    pub node-shallow : s .depth ≤ 64
+    node-shallow = node-room .depth
+
+    pub adds-node : (r : Due)
+        → DueIs (spend op (dueOf (s .depth) (s .bits))) r
+        → Adds s c n (record { rules = s .rules; nodes = s .nodes + 1; own = s .own + 1; depth = r .depth; bits = r .bits; stepping = s .stepping; head = s .head + n })
+    unfolding add
+    adds-node r u = record {
+      is = λ t b h. rw e (record {
         rules = h .rules;
-        nodes = h .nodes;
-        own = h .own;
-        due = h .due;
-        small = h .small;
-        begun = h .begun;
-        stepping = nil-snoc (b .steps) (record { number = u; truths = w });
-        head = h .head;
+        nodes = ap (λ (x : ℕ). x + 1) (h .nodes) ∙ snoc-length (b .ops) op;
+        own = ap (λ (x : ℕ). x + 1) (h .own) ∙ sym (last-bump (b .counts) (h .begun (inside b s h node-in)));
+        due = ap (spend op) (h .due) ∙ u .is;
+        small = u .small;
+        begun = λ _. subst (λ (x : ℕ). 1 ≤ x) (sym (bump-length (b .counts))) (h .begun (inside b s h node-in));
+        stepping = h .stepping;
+        head = ap (λ (x : ℕ). x + n) (h .head);
       });
-    };
+    }
+
+  pub adds-step : (u w : ℕ) → c ≡ contents.Step u w → Adds s c n (record { rules = s .rules; nodes = s .nodes; own = s .own; depth = s .depth; bits = s .bits; stepping = true; head = s .head })
+  unfolding add
+  adds-step u w e = record {
+    is = λ t b h. rw e (record {
+      rules = h .rules;
+      nodes = h .nodes;
+      own = h .own;
+      due = h .due;
+      small = h .small;
+      begun = h .begun;
+      stepping = nil-snoc (b .steps) (record { number = u; truths = w });
+      head = h .head;
+    });
   }
 
-  pub take-wrong-step-inside : 0 < s .depth → Takes s wrong-step n (Faulty 6)
-  take-wrong-step-inside d = record { is = λ b h. faulty n b wrong-step place (wrong-step-inside b s h d) }
+-- ---- a line
+module _ (s : State) (l : code-line.Line) (n : ℕ) where
+  -- the fault of a line that has one, whatever its text
+  faulty : (f : Fault) (k : ℕ) → k ≡ numberOf f → ((t : List ℕ) (b : Book) → HoldsBook b s → fault b (means t l) ≡ some f) → TakesLine s l n (Faulty k)
+  faulty f k q e = record { is = λ t b h. subst (λ (o : Option Fault). Agrees n b (means t l) o (Faulty k)) (sym (e t b h)) (ap Faulty q) }
 
-  pub take-wrong-step-number : s .depth ≤ 0 → Takes s wrong-step n (Faulty 8)
-  take-wrong-step-number d = record { is = λ b h. faulty n b wrong-step number (wrong-step-number b s h d) }
+  pub line-bad : l ≡ lines.Bad → TakesLine s l n (Faulty 5)
+  unfolding means fault firstFault
+  line-bad e = faulty word 5 refl (λ t b h. rw e refl)
 
--- ---- by the code's line
-pub line-bad : (s : State) (l : code.Line) (n : ℕ) → l ≡ lines.Bad → TakesLine s l n (Faulty 5)
-unfolding means fault firstFault passes
-line-bad s l n e = record { is = λ t. rw e (record { is = λ b h. refl }) }
+  module _ (o : Sort) (f : Flaw) (r : Bool) (e : l ≡ lines.Wrong o f) (p : Stands s o r) where
+    pub wrong-place : r ≡ false → TakesLine s l n (Faulty 6)
+    unfolding means fault firstFault
+    wrong-place q = faulty place 6 refl (λ t b h. rw (e, ← p .is b h, q) refl)
 
-module _ (s : State) (l : code.Line) (n : ℕ) (r : Taken) where
-  pub line-rule : (start len kind : ℕ) → l ≡ lines.Rule start len kind → TakesRule s n r → TakesLine s l n r
-  unfolding means
-  line-rule start len kind e u = record { is = λ t. rw e (u .is _ _) }
+    pub wrong-field : (k : ℕ) → r ≡ true → k ≡ flawNumber f → TakesLine s l n (Faulty k)
+    unfolding means fault firstFault
+    wrong-field k q j = faulty (field f) k j (λ t b h. rw (e, ← p .is b h, q) refl)
 
-  pub line-wrong-rule : l ≡ lines.WrongRule → Takes s wrong-rule n r → TakesLine s l n r
-  unfolding means
-  line-wrong-rule e u = record { is = λ t. rw e u }
+  module _ (c : code.Content) (o : Sort) (r : Bool) (e : l ≡ lines.Right c) (i : o ≡ sortIn c) (p : Stands s o r) where
+    sort-is : (t : List ℕ) → sortOf (held t c) ≡ o
+    sort-is t = sort-held t c ∙ sym i
 
-  pub line-node : (op num : ℕ) → l ≡ lines.Node op num → TakesNode s op n r → TakesLine s l n r
-  unfolding means
-  line-node op num e u = record { is = λ t. rw e (u .is _) }
+    pub right-place : r ≡ false → TakesLine s l n (Faulty 6)
+    unfolding means fault firstFault
+    right-place q = faulty place 6 refl (λ t b h. rw (e, sort-is t, ← p .is b h, q) refl)
 
-  pub line-wrong-node : l ≡ lines.WrongNode → Takes s wrong-node n r → TakesLine s l n r
-  unfolding means
-  line-wrong-node e u = record { is = λ t. rw e u }
+    module _ (q : r ≡ true) (v : Bool) (w : Within s o v) where
+      pub right-limit : v ≡ false → TakesLine s l n (Faulty 9)
+      unfolding means fault firstFault
+      right-limit z = faulty limit 9 refl (λ t b h. rw (e, sort-is t, ← p .is b h, q, ← w .is b h, z) refl)
 
-  pub line-step : (st w : ℕ) → l ≡ lines.Step st w → TakesStep s n r → TakesLine s l n r
-  unfolding means
-  line-step st w e u = record { is = λ t. rw e (u .is _ _) }
+      pub right-addable : v ≡ true → (s .head + n < 2 ^ 63) → Small (s .depth) (s .bits) → Addable s c n
+      right-addable z short small = record { short = short; small = small; inside = subst (Inside s) i (p .inside q); room = subst (Room s) i (w .room z) }
 
-  pub line-wrong-step : l ≡ lines.WrongStep → Takes s wrong-step n r → TakesLine s l n r
-  unfolding means
-  line-wrong-step e u = record { is = λ t. rw e u }
+      pub right-adds : (s′ : State) → v ≡ true → Adds s c n s′ → TakesLine s l n (Next s′)
+      unfolding means fault firstFault
+      right-adds s′ z a = record {
+        is = λ t b h.
+            let none-is : fault b (right (held t c)) ≡ none = rw (sort-is t, ← p .is b h, q, ← w .is b h, z) refl in
+            rw e (subst (λ (x : Option Fault). Agrees n b (right (held t c)) x (Next s′)) (sym none-is) (s′, refl, a .is t b h));
+      }

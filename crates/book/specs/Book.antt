@@ -1,7 +1,7 @@
 -- Document 01, "The book": from bytes to what a book holds, or to the refusal with its line.
 --     Book       what has been read so far
---     fault      the first test of `order` that a line fails
---     add        what a line adds
+--     fault      what the first test of `order` that a line fails finds
+--     add        what a line's content adds
 --     readOn     the lines one after the other
 --     read       the whole: refusals 3 and 4, then the lines, then 10
 --     bookResult what a caller is told of it
@@ -13,9 +13,13 @@ use Prim.Native.Nat.{ℕ, zero, suc, _+_}
 use lib.Dec.{leb, ltb, eqb}
 use lib.ListN.{length}
 use Rattle.terms.specs.Limits.{bookBytes, bookNodes, bookRules, deepest, ruleNodes}
+use Rattle.terms.specs.Ops.{notOp, andOp}
 use Rattle.terms.specs.Choice.{pick}
 use Rattle.line.specs.Text.{lines}
-use Rattle.line.specs.Line.{Line, bad, rule, wrong-rule, node, wrong-node, step, wrong-step, parse}
+use Rattle.line.specs.Line.{Content, rule, node, step, sortOf, Line, bad, wrong, right, flawNumber, parse}
+use Rattle.line.specs.declared.line.Sort.{Sort}
+use Rattle.line.specs.declared.line.Sort.the-variants as sort
+use Rattle.line.specs.declared.line.Flaw.{Flaw}
 
 -- a step line: its number and its truths
 pub record StepLine : Type 0 where
@@ -49,45 +53,11 @@ abbrev pub whole : Book → Bool
 whole b = isNil (b .due)
 
 -- ---- the tests on a line
-pub data Sort : Type 0 where
-  no-line : Sort
-  rule-line : Sort
-  node-line : Sort
-  step-line : Sort
-
-abbrev pub sortOf : Line → Sort
-sortOf bad = no-line
-sortOf (rule l k) = rule-line
-sortOf wrong-rule = rule-line
-sortOf (node op n) = node-line
-sortOf wrong-node = node-line
-sortOf (step s w) = step-line
-sortOf wrong-step = step-line
-
 -- where a line may stand: a rule after whole rules and before all steps, a node inside a rule, a step after whole rules
 unfoldable pub stands : Book → Sort → Bool
-stands b no-line = true
-stands b rule-line = whole b && isNil (b .steps)
-stands b node-line = not (whole b)
-stands b step-line = whole b
-
-unfoldable pub labelled : Line → Bool
-labelled bad = true
-labelled (rule l k) = true
-labelled wrong-rule = false
-labelled (node op n) = true
-labelled wrong-node = true
-labelled (step s w) = true
-labelled wrong-step = true
-
-unfoldable pub numbered : Line → Bool
-numbered bad = true
-numbered (rule l k) = true
-numbered wrong-rule = true
-numbered (node op n) = true
-numbered wrong-node = false
-numbered (step s w) = true
-numbered wrong-step = false
+stands b sort.Rule = whole b && isNil (b .steps)
+stands b sort.Node = not (whole b)
+stands b sort.Step = whole b
 
 -- the nodes of the rule in hand, and the depth at which its next node stands
 unfoldable pub lastOf : List ℕ → ℕ
@@ -101,47 +71,51 @@ headOf (d ∷ r) = d
 
 -- the limits: 64 rules, 256 nodes a rule, 1,024 nodes a book, depth 64
 unfoldable pub within : Book → Sort → Bool
-within b no-line = true
-within b rule-line = ltb (length (b .labels)) bookRules
-within b node-line = ltb (lastOf (b .counts)) ruleNodes && (ltb (length (b .ops)) bookNodes && leb (headOf (b .due)) deepest)
-within b step-line = true
+within b sort.Rule = ltb (length (b .labels)) bookRules
+within b sort.Node = ltb (lastOf (b .counts)) ruleNodes && (ltb (length (b .ops)) bookNodes && leb (headOf (b .due)) deepest)
+within b sort.Step = true
 
 pub data Fault : Type 0 where
   word : Fault  -- the word is unknown or its field count wrong
   place : Fault  -- the line cannot stand here
-  label : Fault  -- label or kind is wrong
-  number : Fault  -- a number is malformed or out of range
+  field : Flaw → Fault  -- a label, a kind or a number is wrong
   limit : Fault  -- a limit on rules, nodes or depth is passed
 
 -- document 01's numbers
 abbrev pub numberOf : Fault → ℕ
 numberOf word = 5
 numberOf place = 6
-numberOf label = 7
-numberOf number = 8
+numberOf (field f) = flawNumber f
 numberOf limit = 9
 
--- whether there is a line at all
-abbrev pub isLine : Sort → Bool
-isLine no-line = false
-isLine rule-line = true
-isLine node-line = true
-isLine step-line = true
+-- a test finds its fault in a line, or none
+abbrev pub noWord : Book → Line → Option Fault
+noWord b bad = some word
+noWord b (wrong s f) = none
+noWord b (right c) = none
 
-unfoldable pub passes : Fault → Book → Line → Bool
-passes word b l = isLine (sortOf l)
-passes place b l = stands b (sortOf l)
-passes label b l = labelled l
-passes number b l = numbered l
-passes limit b l = within b (sortOf l)
+abbrev pub wrongField : Book → Line → Option Fault
+wrongField b bad = none
+wrongField b (wrong s f) = some (field f)
+wrongField b (right c) = none
+
+-- .. by the line's sort alone
+abbrev pub bySort : (Book → Sort → Bool) → Fault → Book → Line → Option Fault
+bySort test f b bad = none
+bySort test f b (wrong s g) = pick (test b s) none (some f)
+bySort test f b (right c) = pick (test b (sortOf c)) none (some f)
 
 -- the order in which a line is tested
-abbrev pub order : List Fault
-order = word ∷ place ∷ label ∷ number ∷ limit ∷ []
+abbrev pub order : List (Book → Line → Option Fault)
+order = noWord ∷ bySort stands place ∷ wrongField ∷ bySort within limit ∷ []
 
-unfoldable pub firstFault : List Fault → Book → Line → Option Fault
+abbrev pub orElse : Option Fault → Option Fault → Option Fault
+orElse none o = o
+orElse (some f) o = some f
+
+unfoldable pub firstFault : List (Book → Line → Option Fault) → Book → Line → Option Fault
 firstFault [] b l = none
-firstFault (f ∷ fs) b l = pick (passes f b l) (firstFault fs b l) (some f)
+firstFault (t ∷ ts) b l = orElse (t b l) (firstFault ts b l)
 
 unfoldable pub fault : Book → Line → Option Fault
 fault b l = firstFault order b l
@@ -156,11 +130,10 @@ bump (c ∷ d ∷ r) = c ∷ bump (d ∷ r)
 -- a node takes the first due place, and its operands are due one deeper: none for an atom (numbers 0 to 2), one (3 to 8) or two
 unfoldable pub spend : ℕ → List ℕ → List ℕ
 spend op [] = []
-spend op (d ∷ r) = pick (ltb op 3) r (pick (ltb op 9) (suc d ∷ r) (suc d ∷ suc d ∷ r))
+spend op (d ∷ r) = pick (ltb op notOp) r (pick (ltb op andOp) (suc d ∷ r) (suc d ∷ suc d ∷ r))
 
 -- n is the line's bytes with its LF
-unfoldable pub add : ℕ → Book → Line → Book
-add n b bad = b
+unfoldable pub add : ℕ → Book → Content → Book
 add n b (rule l k) = record {
   labels = b .labels ++ l ∷ [];
   kinds = b .kinds ++ k ∷ [];
@@ -172,7 +145,6 @@ add n b (rule l k) = record {
   due = 1 ∷ [];
   head = b .head + n;
 }
-add n b wrong-rule = b
 add n b (node op v) = record {
   labels = b .labels;
   kinds = b .kinds;
@@ -184,7 +156,6 @@ add n b (node op v) = record {
   due = spend op (b .due);
   head = b .head + n;
 }
-add n b wrong-node = b
 add n b (step s w) = record {
   labels = b .labels;
   kinds = b .kinds;
@@ -196,7 +167,12 @@ add n b (step s w) = record {
   due = b .due;
   head = b .head;
 }
-add n b wrong-step = b
+
+-- only a right line adds anything
+abbrev pub addLine : ℕ → Book → Line → Book
+addLine n b bad = b
+addLine n b (wrong s f) = b
+addLine n b (right c) = add n b c
 
 -- ---- the whole
 pub data Outcome : Type 0 where
@@ -220,7 +196,7 @@ unless (some f) k o = refused (numberOf f) (k + 1)
 -- the lines one after the other, behind k others
 unfoldable pub readOn : Book → ℕ → List (List ℕ) → Outcome
 readOn b k [] = pick (whole b) (accepted b) (refused 10 k)
-readOn b k (l ∷ ls) = unless (fault b (parse l)) k (readOn (add (length l + 1) b (parse l)) (k + 1) ls)
+readOn b k (l ∷ ls) = unless (fault b (parse l)) k (readOn (addLine (length l + 1) b (parse l)) (k + 1) ls)
 
 -- an empty text, or one whose last byte is LF
 unfoldable pub ended : List ℕ → Bool

@@ -6,12 +6,14 @@ use mathlib.Core.Option.{Option, none, some}
 use Prim.Native.Nat.{ℕ, zero, suc, _+_, _*_, _/_, _%_, _^_, _≤_, _<_}
 use lib.Dec.{eqb}
 use lib.ListN.{length}
-use Rattle.terms.specs.Limits.{bookBytes}
+use Rattle.terms.specs.Limits.{bookBytes, bookNodes, bookRules, deepest, ruleNodes}
 use Rattle.terms.specs.Choice.{pick}
-use Rattle.line.specs.Line.{Line, rule, node, step}
-use Rattle.line.specs.Means.{means}
-use Rattle.line.specs.declared.line.Line as code
-use Rattle.book.specs.Book.{Book, isNil, lastOf, spend, Fault, numberOf, fault, add, BookResult, contents, refusal, ended}
+use Rattle.line.specs.Line.{Line}
+use Rattle.line.specs.Means.{held, sortIn, means}
+use Rattle.line.specs.declared.line.Sort.{Sort}
+use Rattle.line.specs.declared.line.Sort.the-variants as sort
+use Rattle.line.specs.declared.line as code
+use Rattle.book.specs.Book.{Book, isNil, lastOf, stands, within, Fault, numberOf, fault, add, addLine, BookResult, contents, refusal, ended}
 use Rattle.book.specs.declared.due.Due.{Due}
 use Rattle.book.specs.declared.state.State.{State}
 use Rattle.book.specs.declared.state.Taken.{Taken}
@@ -60,23 +62,45 @@ pub record HoldsBook (b : Book) (s : State) : Type 0 where
   pub stepping : s .stepping ≡ not (isNil (b .steps))
   pub head : s .head ≡ b .head
 
+-- ---- the tests on a line by its sort: what each says of the books that the state stands for, and of the state
+-- a node stands inside a rule
+abbrev pub Inside : State → Sort → Type 0
+Inside s sort.Rule = Unit
+Inside s sort.Node = 1 ≤ s .depth
+Inside s sort.Step = Unit
+
+pub record NodeRoom (s : State) : Type 0 where
+  pub own : s .own < ruleNodes
+  pub nodes : s .nodes < bookNodes
+  pub depth : s .depth ≤ deepest
+
+abbrev pub Room : State → Sort → Type 0
+Room s sort.Rule = s .rules < bookRules
+Room s sort.Node = NodeRoom s
+Room s sort.Step = Unit
+
+pub record Stands (s : State) (o : Sort) (r : Bool) : Type 0 where
+  pub is : (b : Book) → HoldsBook b s → r ≡ stands b o
+  pub inside : r ≡ true → Inside s o
+
+pub record Within (s : State) (o : Sort) (r : Bool) : Type 0 where
+  pub is : (b : Book) → HoldsBook b s → r ≡ within b o
+  pub room : r ≡ true → Room s o
+
+-- the state with the content of a line of n bytes added, whatever the line's text
+pub record Addable (s : State) (c : code.Content.Content) (n : ℕ) : Type 0 where
+  pub short : s .head + n < 2 ^ 63
+  pub small : Small (s .depth) (s .bits)
+  pub inside : Inside s (sortIn c)
+  pub room : Room s (sortIn c)
+
+pub record Adds (s : State) (c : code.Content.Content) (n : ℕ) (r : State) : Type 0 where
+  pub is : (t : List ℕ) (b : Book) → HoldsBook b s → HoldsBook (add n b (held t c)) r
+
 -- what taking a line of n bytes answers: the fault's number, or the state with the line added
 abbrev pub Agrees : ℕ → Book → Line → Option Fault → Taken → Type 0
-Agrees n b l none r = (s : State) × (r ≡ Next s) × HoldsBook (add n b l) s
+Agrees n b l none r = (s : State) × (r ≡ Next s) × HoldsBook (addLine n b l) s
 Agrees n b l (some f) r = r ≡ Faulty (numberOf f)
 
-pub record Takes (s : State) (l : Line) (n : ℕ) (r : Taken) : Type 0 where
-  pub is : (b : Book) → HoldsBook b s → Agrees n b l (fault b l) r
-
--- the same for a rule's line whatever its label and kind, a node's whatever its number, a step's, and the code's line
-pub record TakesRule (s : State) (n : ℕ) (r : Taken) : Type 0 where
-  pub is : (l : List ℕ) (k : ℕ) → Takes s (rule l k) n r
-
-pub record TakesNode (s : State) (op n : ℕ) (r : Taken) : Type 0 where
-  pub is : (v : ℕ) → Takes s (node op v) n r
-
-pub record TakesStep (s : State) (n : ℕ) (r : Taken) : Type 0 where
-  pub is : (u w : ℕ) → Takes s (step u w) n r
-
-pub record TakesLine (s : State) (l : code.Line) (n : ℕ) (r : Taken) : Type 0 where
-  pub is : (t : List ℕ) → Takes s (means t l) n r
+pub record TakesLine (s : State) (l : code.Line.Line) (n : ℕ) (r : Taken) : Type 0 where
+  pub is : (t : List ℕ) (b : Book) → HoldsBook b s → Agrees n b (means t l) (fault b (means t l)) r

@@ -1,14 +1,24 @@
 // What the check knows of the lines read so far, and a line taken into it.
 use crate::due::operands;
+use line::line::Content;
 use line::line::Line;
+use line::line::Sort;
+use line::line::flaw_number;
+use line::line::sort_of;
 use terms::limit::BOOK_NODES;
 use terms::limit::BOOK_RULES;
 use terms::limit::DEEPEST;
 use terms::limit::RULE_NODES;
 ghost use Prim.Native.Nat.{_+_, _<_, _^_};
-ghost use Rattle.line.specs.Line.{wrong-rule, wrong-node, wrong-step};
 ghost use Rattle.book.specs.Book.{empty};
-ghost use Rattle.book.specs.Checked.{Small, HoldsBook, Takes, TakesRule, TakesNode, TakesStep, TakesLine};
+ghost use Rattle.book.specs.Checked.{Small, HoldsBook, Stands, Within, Addable, Adds, TakesLine};
+
+// Document 01's numbers of the faults that are no field's.
+const WORD: u8 = 5;
+
+const PLACE: u8 = 6;
+
+const LIMIT: u8 = 9;
 
 pub struct State {
     pub rules: usize,
@@ -40,124 +50,106 @@ pub fn start() -> State
     }
 }
 
-// A rule's line of n bytes.
-fn take_rule(s: State, n: usize) -> Taken
-    requires { ⌜ s .head + n < 2 ^ 63 ⌝ }
-    ensures { λ r. ⌜ TakesRule s n r ⌝ }
+// Whether a line of the sort may stand behind the lines read.
+fn stands(s: State, sort: Sort) -> bool
+    ensures { λ r. ⌜ Stands s sort r ⌝ }
 {
-    if 0 < s.depth {
-        return Taken::Faulty(6);
+    match sort {
+        Sort::Rule => {
+            if s.stepping {
+                return false;
+            }
+            s.depth == 0
+        }
+        Sort::Node => 0 < s.depth,
+        Sort::Step => s.depth == 0,
     }
-    if s.stepping {
-        return Taken::Faulty(6);
-    }
-    if BOOK_RULES <= s.rules {
-        return Taken::Faulty(9);
-    }
-    Taken::Next(State {
-        rules: s.rules + 1,
-        nodes: s.nodes,
-        own: 0,
-        depth: 1,
-        bits: 0,
-        stepping: s.stepping,
-        head: s.head + n,
-    })
 }
 
-fn take_wrong_rule(s: State, n: usize) -> Taken
-    ensures { λ r. ⌜ Takes s wrong-rule n r ⌝ }
+// Whether one more line of the sort is within the limits.
+fn within(s: State, sort: Sort) -> bool
+    ensures { λ r. ⌜ Within s sort r ⌝ }
 {
-    if 0 < s.depth {
-        return Taken::Faulty(6);
+    match sort {
+        Sort::Rule => s.rules < BOOK_RULES,
+        Sort::Node => {
+            if RULE_NODES <= s.own {
+                return false;
+            }
+            if BOOK_NODES <= s.nodes {
+                return false;
+            }
+            s.depth <= DEEPEST
+        }
+        Sort::Step => true,
     }
-    if s.stepping {
-        return Taken::Faulty(6);
-    }
-    Taken::Faulty(7)
 }
 
-// A node's line.
-fn take_node(s: State, op: u8, n: usize) -> Taken
-    requires { ⌜ (s .head + n < 2 ^ 63) × Small (s .depth) (s .bits) ⌝ }
-    ensures { λ r. ⌜ TakesNode s op n r ⌝ }
+// The content of a line of n bytes, its LF counted.
+fn add(s: State, c: Content, n: usize) -> State
+    requires { ⌜ Addable s c n ⌝ }
+    ensures { λ r. ⌜ Adds s c n r ⌝ }
 {
-    if s.depth == 0 {
-        return Taken::Faulty(6);
+    match c {
+        Content::Rule {
+            start: _,
+            len: _,
+            kind: _,
+        } => State {
+            rules: s.rules + 1,
+            nodes: s.nodes,
+            own: 0,
+            depth: 1,
+            bits: 0,
+            stepping: s.stepping,
+            head: s.head + n,
+        },
+        Content::Node { op, num: _ } => {
+            let due = operands(op, s.depth, s.bits);
+            State {
+                rules: s.rules,
+                nodes: s.nodes + 1,
+                own: s.own + 1,
+                depth: due.depth,
+                bits: due.bits,
+                stepping: s.stepping,
+                head: s.head + n,
+            }
+        }
+        Content::Step { step: _, truths: _ } => State {
+            rules: s.rules,
+            nodes: s.nodes,
+            own: s.own,
+            depth: s.depth,
+            bits: s.bits,
+            stepping: true,
+            head: s.head,
+        },
     }
-    if RULE_NODES <= s.own {
-        return Taken::Faulty(9);
-    }
-    if BOOK_NODES <= s.nodes {
-        return Taken::Faulty(9);
-    }
-    if DEEPEST < s.depth {
-        return Taken::Faulty(9);
-    }
-    let due = operands(op, s.depth, s.bits);
-    Taken::Next(State {
-        rules: s.rules,
-        nodes: s.nodes + 1,
-        own: s.own + 1,
-        depth: due.depth,
-        bits: due.bits,
-        stepping: s.stepping,
-        head: s.head + n,
-    })
 }
 
-fn take_wrong_node(s: State, n: usize) -> Taken
-    ensures { λ r. ⌜ Takes s wrong-node n r ⌝ }
-{
-    if s.depth == 0 {
-        return Taken::Faulty(6);
-    }
-    Taken::Faulty(8)
-}
-
-// A step's line.
-fn take_step(s: State, n: usize) -> Taken
-    ensures { λ r. ⌜ TakesStep s n r ⌝ }
-{
-    if 0 < s.depth {
-        return Taken::Faulty(6);
-    }
-    Taken::Next(State {
-        rules: s.rules,
-        nodes: s.nodes,
-        own: s.own,
-        depth: s.depth,
-        bits: s.bits,
-        stepping: true,
-        head: s.head,
-    })
-}
-
-fn take_wrong_step(s: State, n: usize) -> Taken
-    ensures { λ r. ⌜ Takes s wrong-step n r ⌝ }
-{
-    if 0 < s.depth {
-        return Taken::Faulty(6);
-    }
-    Taken::Faulty(8)
-}
-
-// A line of n bytes, its LF counted.
+// A line of n bytes, its LF counted: its place, what is wrong about it, the limits, in this order.
 pub(crate) fn take(s: State, l: Line, n: usize) -> Taken
     requires { ⌜ (s .head + n < 2 ^ 63) × Small (s .depth) (s .bits) ⌝ }
     ensures { λ r. ⌜ TakesLine s l n r ⌝ }
 {
     match l {
-        Line::Bad => Taken::Faulty(5),
-        Line::Rule {
-            start: _,
-            len: _,
-            kind: _,
-        } => take_rule(s, n),
-        Line::WrongRule => take_wrong_rule(s, n),
-        Line::Node { op, num: _ } => take_node(s, op, n),
-        Line::WrongNode => take_wrong_node(s, n),
-        Line::Step { step: _, truths: _ } => take_step(s, n),
-        Line::WrongStep => take_wrong_step(s, n),
+        Line::Bad => Taken::Faulty(WORD),
+        Line::Wrong { sort, flaw } => {
+            if stands(s, sort) {
+                return Taken::Faulty(flaw_number(flaw));
+            }
+            Taken::Faulty(PLACE)
+        }
+        Line::Right(c) => {
+            let sort = sort_of(c);
+            if stands(s, sort) {
+                if within(s, sort) {
+                    return Taken::Next(add(s, c, n));
+                }
+                return Taken::Faulty(LIMIT);
+            }
+            Taken::Faulty(PLACE)
+        }
     }
 }

@@ -12,6 +12,7 @@ use Rattle.formula.specs.Tree.{Tree, leaf, one, two, Token, leaf-of, one-of, tw
 use Rattle.formula.specs.Formula.{Atom, Unary, Binary, Formula, Node, node, signal}
 use Rattle.formula.specs.Table.{inWord}
 use Rattle.formula.proofs.Nodes.{node-leaf, node-one, node-two}
+use Rattle.line.proofs.Sane.{NodeSane}
 use Rattle.book.specs.Book.{spend}
 
 -- trees that may stand at the depths that are due: none reaches below depth 64, and atoms are within a word
@@ -79,16 +80,15 @@ module _ (cur : List Node) (d : ℕ) (r : List ℕ) (o : Opens cur (d ∷ r)) (l
           subst Formulated (ap (λ (x : List Node). cur ++ two-of p ∷ x) (append-assoc (prefix t) (prefix v) (prefixes ts)) ∙ snoc cur (two-of p) (prefix t ++ (prefix v ++ prefixes ts)))
           (o .with-trees (two p t v ∷ ts) (omega (arith, h .0, h .2 .0), ap₂ _&&_ (h .1) (h .2 .1), h .2 .2))
 
--- a node's number is a word's, and an atom's signal is within a word
-pub record NodeOk (op v : ℕ) : Type 0 where
-  pub known : op < 13
-  pub signals : op < 3 → v < 64
-
-pub opens-node : (cur : List Node) (d : ℕ) (r : List ℕ) (op v : ℕ) → Opens cur (d ∷ r) → d ≤ 64 → NodeOk op v → Opens (cur ++ node op v ∷ []) (spend op (d ∷ r))
+pub opens-node : (cur : List Node) (d : ℕ) (r : List ℕ) (op v : ℕ)
+    → Opens cur (d ∷ r)
+    → d ≤ 64
+    → NodeSane op v
+    → Opens (cur ++ node op v ∷ []) (spend op (d ∷ r))
 unfolding spend
 opens-node cur d r op v o low k = ⊎-elim
     (λ h. let (a, e, n) = node-leaf op v h in
-    rw (e, lt-ltb op 3 h) (opens-leaf cur d r o low a (le-leb (signal a) 63 (subst (λ (x : ℕ). x ≤ 63) (sym n) (omega (arith, k .signals h))))))
+    rw (e, lt-ltb op 3 h) (opens-leaf cur d r o low a (le-leb (signal a) 63 (subst (λ (x : ℕ). x ≤ 63) (sym n) (omega (arith, k .signal h))))))
     (λ g. ⊎-elim
     (λ h. let (u, e) = node-one op v g h in rw (e, le-ltb op 3 g, lt-ltb op 9 h) (opens-one cur d r o low u))
     (λ h. let (p, e) = node-two op v h (k .known) in rw (e, le-ltb op 3 g, le-ltb op 9 h) (opens-two cur d r o low p))

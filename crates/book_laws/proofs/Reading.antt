@@ -15,11 +15,12 @@ use Rattle.formula.specs.Tree.{leaf-of, one-of, two-of, unknown}
 use Rattle.formula.specs.Formula.{Atom, Node, signal, var, input, output, not, next, always, eventually, always-for, within, and, or, implies, until}
 use Rattle.formula.specs.Table.{inWord}
 use Rattle.line.specs.Text.{parts, onto, lines, fields, eqbs}
-use Rattle.line.specs.Word.{wordOf, lookup, fieldCount}
-use Rattle.line.specs.Line.{Line, rule, node, step, isLabel, kindOf, ruleKind, ruleLine, atomLine, boundLine, stepLine, content, ofFields, parse}
+use Rattle.line.specs.Word.{wordOf, lookup}
+use Rattle.line.specs.Line.{rule, node, step, wrong, right, isLabel, kindByte, kindOf, ruleKind, ruleLine, atomLine, boundLine, stepLine, content, ofFields, parse}
+use Rattle.line.specs.declared.line.Sort.the-variants as sort
+use Rattle.line.specs.declared.line.Flaw.the-variants as flaw
 use Rattle.book.specs.Book.{StepLine}
 use Rattle.number.specs.Digits.{decimal, hexDigits}
-use Rattle.line.specs.Line.{kindByte}
 use Rattle.book_laws.specs.Write.{RuleText, opOf, numOf, nodeText, headText, stepText}
 use Rattle.book_laws.proofs.Texts.{free, free-append, fields-free, parts-free, decimal-back, decimal-free, hex-back, hex-free, label-free, label-printable}
 
@@ -29,19 +30,19 @@ pub record TokenOk (t : Node) : Type 0 where
   pub bound : numOf t < 2 ^ 64
   pub signals : opOf t < 3 → numOf t < 64
 
-by-atom : (op n : ℕ) → n < 64 → atomLine op (decimalOf (decimal n)) ≡ node op n
+by-atom : (op n : ℕ) → n < 64 → atomLine op (decimalOf (decimal n)) ≡ right (node op n)
 unfolding atomLine
 by-atom op n h = rw (decimal-back n (omega arith), lt-ltb n 64 h) refl
 
-by-bound : (op n : ℕ) → n < 2 ^ 64 → boundLine op (decimalOf (decimal n)) ≡ node op n
+by-bound : (op n : ℕ) → n < 2 ^ 64 → boundLine op (decimalOf (decimal n)) ≡ right (node op n)
 unfolding boundLine
 by-bound op n h = rw (decimal-back n h) refl
 
 one-field : (n : ℕ) → n < 2 ^ 64 → fields (decimal n) ≡ decimal n ∷ []
 one-field n h = fields-free (decimal n) (decimal-free 9 n (omega arith) h)
 
-pub node-line : (t : Node) → TokenOk t → parse (nodeText t) ≡ node (opOf t) (numOf t)
-unfolding parse ofFields parts onto wordOf lookup eqbs fieldCount content
+pub node-line : (t : Node) → TokenOk t → parse (nodeText t) ≡ right (node (opOf t) (numOf t))
+unfolding parse ofFields parts onto wordOf lookup eqbs content
 node-line (leaf-of (var n)) k = rw (one-field n (k .bound)) (by-atom 0 n (k .signals (omega arith)))
 node-line (leaf-of (input n)) k = rw (one-field n (k .bound)) (by-atom 1 n (k .signals (omega arith)))
 node-line (leaf-of (output n)) k = rw (one-field n (k .bound)) (by-atom 2 n (k .signals (omega arith)))
@@ -86,13 +87,13 @@ unfolding parts onto
 kind-fields zero = refl
 kind-fields (suc k) = refl
 
-pub head-line : (r : RuleText) → isLabel (r .label) ≡ true → r .kind < 2 → parse (headText r) ≡ rule (r .label) (r .kind)
-unfolding parse ofFields parts onto wordOf lookup eqbs fieldCount content ruleLine ruleKind
+pub head-line : (r : RuleText) → isLabel (r .label) ≡ true → r .kind < 2 → parse (headText r) ≡ right (rule (r .label) (r .kind))
+unfolding parse ofFields parts onto wordOf lookup eqbs content ruleLine ruleKind
 head-line r h k =
     let fs : fields (r .label ++ 9 ∷ kindByte (r .kind) ∷ []) ≡ r .label ∷ (kindByte (r .kind) ∷ []) ∷ [] = parts-free 9 ([] ∷ []) (r .label) (kindByte (r .kind) ∷ []) (label-free 9 (r .label) (omega arith) (label-printable (r .label) h)) ∙ ap (r .label ∷_) (kind-fields (r .kind)) in
     rw (fs, h, kind-back (r .kind) k) (go (r .kind) k)
   where
-    go : (m : ℕ) → m < 2 → pick (eqb m 2) Rattle.line.specs.Line.wrong-rule (rule (r .label) m) ≡ rule (r .label) m
+    go : (m : ℕ) → m < 2 → pick (eqb m 2) (wrong sort.Rule flaw.Label) (right (rule (r .label) m)) ≡ right (rule (r .label) m)
     go zero q = refl
     go (suc zero) q = refl
     go (suc (suc m)) q = absurd (omega arith)
@@ -106,8 +107,8 @@ head-free r h = free-append 10 (r .label) (9 ∷ kindByte (r .kind) ∷ []) (lab
     go (suc k) = refl
 
 -- ---- a step
-pub step-line : (s : StepLine) → s .number < 2 ^ 63 → s .truths < 2 ^ 64 → parse (stepText s) ≡ step (s .number) (s .truths)
-unfolding parse ofFields parts onto wordOf lookup eqbs fieldCount content stepLine
+pub step-line : (s : StepLine) → s .number < 2 ^ 63 → s .truths < 2 ^ 64 → parse (stepText s) ≡ right (step (s .number) (s .truths))
+unfolding parse ofFields parts onto wordOf lookup eqbs content stepLine
 step-line s h k =
     let fs : fields (decimal (s .number) ++ 9 ∷ hexDigits 16 (s .truths)) ≡ decimal (s .number) ∷ hexDigits 16 (s .truths) ∷ [] = parts-free 9 ([] ∷ []) (decimal (s .number)) (hexDigits 16 (s .truths)) (decimal-free 9 (s .number) (omega arith) (omega arith)) ∙ ap (decimal (s .number) ∷_) (fields-free (hexDigits 16 (s .truths)) (hex-free 9 (s .truths) (omega arith) k)) in
     rw (fs, decimal-back (s .number) (omega arith), hex-back (s .truths) k, lt-ltb (s .number) (2 ^ 63) h) refl

@@ -6,112 +6,24 @@ use mathlib.Core.Option.{Option, none, some}
 use Prim.Native.Nat.{ℕ, zero, suc, _+_, _-_, _*_, _^_, _≤_, _<_}
 use native.Mathlib.Omega.{arith}
 use native.Mathlib.Numerals.{add-one}
-use borrow.Author.Tests.{ltb-true}
-use lib.Dec.{eqb, leb, ltb}
 use lib.ListN.{length, getD, take, drop, length-append, length-drop, List·getD-append}
 use lib.Seq.{drop-cons, drop-append-le, take-append-le, drop-append-seam, length-take-le, take-length}
 use Rattle.terms.specs.Choice.{pick}
-use Rattle.number.specs.Number.{decimalOf, hexOf}
-use Rattle.number.specs.declared.Number.{Number}
-use Rattle.number.specs.declared.Number.the-variants.{Value, Wrong}
 use Rattle.formula.specs.Tree.{Tree, unknown, size, depth, prefix, all}
 use Rattle.formula.specs.Spells.{run}
 use Rattle.formula.specs.Formula.{Formula, Node, node}
 use Rattle.formula.specs.Table.{nodeAt, inWord, ruleOf, Rule}
 use Rattle.formula.proofs.Trees.{run-spells, prefix-length}
 use Rattle.formula.proofs.Rules.{rule-of}
-use Rattle.line.specs.Text.{lines, fields, eqbs}
-use Rattle.line.specs.Word.{Entry, wordOf, lookup, vocabulary, fieldCount}
-use Rattle.line.specs.Line.{Line, bad, rule, wrong-rule, wrong-node, step, wrong-step, isLabel, kindOf, ruleKind, ruleLine, atomLine, boundLine, stepLine, content, ofFields, parse}
+use Rattle.line.specs.Text.{lines}
+use Rattle.line.specs.Line.{Content, rule, step, Line, right, parse}
 use Rattle.line.specs.Line as spec
-use Rattle.line.specs.declared.word.Word.{Word}
-use Rattle.line.specs.declared.word.Word.the-variants as word
-use Rattle.book.specs.Book.{Book, empty, isNil, whole, headOf, lastOf, bump, spend, Fault, fault, add, Outcome, accepted, refused, unless, readOn, read}
+use Rattle.line.proofs.Sane.{Sane, NodeSane}
+use Rattle.book.specs.Book.{Book, empty, isNil, whole, headOf, lastOf, bump, spend, fault, add, addLine, Outcome, accepted, refused, readOn, read}
 use Rattle.reader.specs.Tables.{BookTables, over, written, roomy, readInto}
-use Rattle.reader.proofs.Sounds.{Passed, passed, rules-left, nodes-left, node-inside, Sound, sound-empty, sound-add}
+use Rattle.reader.proofs.Sounds.{Passed, PassedLine, passed, sane, nodes-left, node-inside, Sound, sound-empty, sound-add}
 use Rattle.reader.proofs.Runs.{accepted-lines, accepted-inj, unless-none}
-use Rattle.book_laws.proofs.Formulas.{Formulated, Opens, NodeOk, opens-first, opens-done, opens-node}
-
--- ---- a line's numbers: a rule's kind, a node's operation and signal
-abbrev NodeOf : Line → Type 0
-NodeOf bad = Unit
-NodeOf (rule l k) = k < 2
-NodeOf wrong-rule = Unit
-NodeOf (spec.node op v) = NodeOk op v
-NodeOf wrong-node = Unit
-NodeOf (step s w) = Unit
-NodeOf wrong-step = Unit
-
-abbrev WordOk : Word → Type 0
-WordOk (word.Atom op) = op < 3
-WordOk (word.Plain op) = (3 ≤ op) × (op < 13)
-WordOk (word.Bounded op) = (3 ≤ op) × (op < 13)
-WordOk word.Rule = Unit
-WordOk word.Step = Unit
-WordOk word.Unknown = Unit
-
-abbrev AllOk : List Entry → Type 0
-AllOk [] = Unit
-AllOk (e ∷ es) = WordOk (e .word) × AllOk es
-
-lookup-ok : (es : List Entry) (f : List ℕ) → AllOk es → WordOk (lookup es f)
-unfolding lookup
-lookup-ok [] f h = tt
-lookup-ok (e ∷ es) f h = go (eqbs f (e .spelling)) (lookup es f) (lookup-ok es f (h .1))
-  where
-    go : (t : Bool) (w : Word) → WordOk w → WordOk (pick t (e .word) w)
-    go true w k = h .0
-    go false w k = k
-
-vocabulary-ok : AllOk vocabulary
-vocabulary-ok = (omega arith, (omega arith, (omega arith, ((omega arith, omega arith), ((omega arith, omega arith), ((omega arith, omega arith), ((omega arith, omega arith), ((omega arith, omega arith), ((omega arith, omega arith), ((omega arith, omega arith), ((omega arith, omega arith), ((omega arith, omega arith), ((omega arith, omega arith), (tt, (tt, tt)))))))))))))))
-
-pick-node : (t : Bool) (a b : Line) → NodeOf a → NodeOf b → NodeOf (pick t a b)
-pick-node true a b x y = x
-pick-node false a b x y = y
-
-rule-kind : (f g : List ℕ) → NodeOf (ruleLine f g)
-unfolding ruleLine ruleKind kindOf
-rule-kind f g = go (isLabel f) (eqbs g (80 ∷ [])) (eqbs g (65 ∷ []))
-  where
-    go : (a b c : Bool) → NodeOf (pick (eqb (pick a (pick b 0 (pick c 1 2)) 2) 2) wrong-rule (rule f (pick a (pick b 0 (pick c 1 2)) 2)))
-    go true true c = omega arith
-    go true false true = omega arith
-    go true false false = tt
-    go false b c = tt
-
-content-node : (w : Word) (f g : List ℕ) → WordOk w → NodeOf (content w f g)
-unfolding content ruleLine atomLine boundLine stepLine
-content-node (word.Atom op) f g k = go (decimalOf f)
-  where
-    small : (v : ℕ) (t : Bool) → ltb v 64 ≡ t → NodeOf (pick t (spec.node op v) wrong-node)
-    small v true e = record { known = omega arith; signals = λ _. ltb-true v 64 e }
-    small v false e = tt
-
-    go : (n : Number) → NodeOf (atomLine op n)
-    go Wrong = tt
-    go (Value v) = small v (ltb v 64) refl
-content-node (word.Plain op) f g k = record { known = k .1; signals = λ h. omega (arith, k .0) }
-content-node (word.Bounded op) f g k = go (decimalOf f)
-  where
-    go : (n : Number) → NodeOf (boundLine op n)
-    go Wrong = tt
-    go (Value v) = record { known = k .1; signals = λ h. omega (arith, k .0) }
-content-node word.Rule f g k = rule-kind f g
-content-node word.Step f g k = go (decimalOf f) (hexOf g)
-  where
-    go : (n m : Number) → NodeOf (stepLine n m)
-    go Wrong m = tt
-    go (Value s) Wrong = tt
-    go (Value s) (Value w) = pick-node (ltb s (2 ^ 63)) (step s w) wrong-step tt tt
-content-node word.Unknown f g k = tt
-
-parse-node : (l : List ℕ) → NodeOf (parse l)
-unfolding parse ofFields wordOf
-parse-node l =
-    pick-node (eqb (length (fields l)) (fieldCount (wordOf (getD (fields l) 0 []))))
-    (content (wordOf (getD (fields l) 0 [])) (getD (fields l) 1 []) (getD (fields l) 2 [])) bad
-    (content-node (wordOf (getD (fields l) 0 [])) (getD (fields l) 1 []) (getD (fields l) 2 []) (lookup-ok vocabulary (getD (fields l) 0 []) vocabulary-ok)) tt
+use Rattle.book_laws.proofs.Formulas.{Formulated, Opens, opens-first, opens-done, opens-node}
 
 -- ---- the formula table as a list of nodes
 pub toks : List ℕ → List ℕ → List Node
@@ -304,7 +216,7 @@ split-due : (d : List ℕ) → isNil d ≡ false → (h : ℕ) × (r : List ℕ)
 split-due [] e = false-true e
 split-due (h ∷ r) e = (h, r, refl)
 
-node-ruled : (n : ℕ) (b : Book) (op v : ℕ) → Sound b → InHand b → NodeOk op v → Passed b (spec.node op v) → Ruled (add n b (spec.node op v))
+node-ruled : (n : ℕ) (b : Book) (op v : ℕ) → Sound b → InHand b → NodeSane op v → Passed b (spec.node op v) → Ruled (add n b (spec.node op v))
 unfolding add
 node-ruled n b op v s i ok p =
     let (lo, less, deep) = nodes-left b op v p in
@@ -347,19 +259,15 @@ node-ruled n b op v s i ok p =
       opens = subst (Opens (drop first (nodesOf c))) (sym d) w;
     })
 
-ruled-by : (n : ℕ) (b : Book) (l : Line) → Sound b → Ruled b → NodeOf l → Passed b l → Ruled (add n b l)
+ruled-by : (n : ℕ) (b : Book) (c : Content) → Sound b → Ruled b → Sane c → Passed b c → Ruled (add n b c)
 unfolding add Rattle.book.specs.Book.stands
-ruled-by n b bad s r k p = r
 ruled-by n b (rule l m) s r k p = rule-ruled n b l m s (whole-nil b (Rattle.reader.proofs.Sounds.both {a = whole b} {b = isNil (b .steps)} (p .here) .0) r)
-ruled-by n b wrong-rule s r k p = r
 ruled-by n b (spec.node op v) s r k p = node-ruled n b op v s (hand-in b (node-inside b op v p) r) k p
-ruled-by n b wrong-node s r k p = r
 ruled-by n b (step u w) s r k p = step-ruled b n u w r
   where
     step-ruled : (b : Book) (n u w : ℕ) → Ruled b → Ruled (add n b (step u w))
     step-ruled b n u w (mathlib.Core.Logic.inl x) = mathlib.Core.Logic.inl (record { none-due = x .none-due; rules = x .rules; stacked = x .stacked })
     step-ruled b n u w (mathlib.Core.Logic.inr x) = mathlib.Core.Logic.inr (record { some-due = x .some-due; firsts = x .firsts; counts = x .counts; first = x .first; own = x .own; firsts-is = x .firsts-is; counts-is = x .counts-is; ends = x .ends; rules = x .rules; stacked = x .stacked; opens = x .opens })
-ruled-by n b wrong-step s r k p = r
 
 -- ---- kinds: 0 or 1
 abbrev pub Kinded : List ℕ → Type 0
@@ -370,15 +278,11 @@ kinded-snoc : (ks : List ℕ) (k : ℕ) → Kinded ks → k < 2 → Kinded (ks +
 kinded-snoc [] k s h = (h, tt)
 kinded-snoc (j ∷ ks) k s h = (s .0, kinded-snoc ks k (s .1) h)
 
-kinded-by : (n : ℕ) (b : Book) (l : Line) → Kinded (b .kinds) → NodeOf l → Kinded (add n b l .kinds)
+kinded-by : (n : ℕ) (b : Book) (c : Content) → Kinded (b .kinds) → Sane c → Kinded (add n b c .kinds)
 unfolding add
-kinded-by n b bad s h = s
-kinded-by n b (rule l k) s h = kinded-snoc (b .kinds) k s h
-kinded-by n b wrong-rule s h = s
+kinded-by n b (rule l k) s h = kinded-snoc (b .kinds) k s (h .kind)
 kinded-by n b (spec.node op v) s h = s
-kinded-by n b wrong-node s h = s
 kinded-by n b (step u w) s h = s
-kinded-by n b wrong-step s h = s
 
 -- ---- the fold
 pub record Done (c : Book) : Type 0 where
@@ -399,7 +303,13 @@ ruled-all b c k [] s r kd e = go (whole b) refl e
     go false w e = accepted-refused e
 ruled-all b c k (l ∷ ls) s r kd e =
     let (o, a) = unless-none (fault b (parse l)) k _ c e in
-    ruled-all (add (length l + 1) b (parse l)) c (k + 1) ls (sound-add (length l + 1) b l s o) (ruled-by (length l + 1) b (parse l) s r (parse-node l) (passed b (parse l) o)) (kinded-by (length l + 1) b (parse l) kd (parse-node l)) a
+    let p : PassedLine b (parse l) = passed b (parse l) o in
+    let n : ℕ = length l + 1 in
+    let h : Sane (p .content) = sane l (p .content) (p .is) in
+    let back : parse l ≡ right (p .content) = p .is in
+    ruled-all (addLine n b (parse l)) c (k + 1) ls (sound-add n b l s o)
+    (subst (λ (x : Line). Ruled (addLine n b x)) (sym back) (ruled-by n b (p .content) s r h (p .passed)))
+    (subst (λ (x : Line). Kinded (addLine n b x .kinds)) (sym back) (kinded-by n b (p .content) kd h)) a
 
 pub accepted-done : (text : List ℕ) (b : Book) → read text ≡ accepted b → Done b
 accepted-done text b e = ruled-all empty b 0 (lines text) sound-empty ruled-empty tt (accepted-lines text b e)

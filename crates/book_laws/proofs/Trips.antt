@@ -14,9 +14,9 @@ use Rattle.formula.specs.Tree.{Tree, leaf, one, two, leaf-of, one-of, two-of, u
 use Rattle.formula.specs.Formula.{Atom, Unary, Binary, Formula, Node, signal, var, input, output, not, next, always, eventually, always-for, within, and, or, implies, until}
 use Rattle.formula.specs.Table.{inWord}
 use Rattle.formula.proofs.Trees.{prefix-length}
-use Rattle.line.specs.Line.{Line, rule, step, parse}
+use Rattle.line.specs.Line.{Content, rule, step, right, parse}
 use Rattle.line.specs.Line as spec
-use Rattle.book.specs.Book.{Book, StepLine, empty, isNil, whole, headOf, lastOf, bump, spend, Fault, passes, stands, labelled, numbered, firstFault, fault, add, Outcome, accepted, refused, unless, readOn}
+use Rattle.book.specs.Book.{Book, StepLine, empty, isNil, whole, headOf, lastOf, bump, spend, stands, firstFault, fault, add, accepted, refused, readOn}
 use Rattle.book.specs.Book as books
 use Rattle.book.proofs.States.{last-snoc}
 use Rattle.book_laws.specs.Write.{RuleText, opOf, numOf, nodeText, headText, stepText, ruleLines, Bounded, RuleLimited, RulesLimited, StepsLimited, nodesOf, firstsFrom, labelOf, kindOf, countOf}
@@ -32,16 +32,16 @@ map-append f (a ∷ x) y = ap (f a ∷_) (map-append f x y)
 pub record Reach (b : Book) (k : ℕ) (ls : List (List ℕ)) (b′ : Book) (k′ : ℕ) : Type 0 where
   pub on : (rest : List (List ℕ)) → readOn b k (ls ++ rest) ≡ readOn b′ k′ rest
 
-reach-one : (b : Book) (k : ℕ) (l : List ℕ) (p : Line) → parse l ≡ p → fault b p ≡ none → Reach b k (l ∷ []) (add (length l + 1) b p) (k + 1)
+reach-one : (b : Book) (k : ℕ) (l : List ℕ) (c : Content) → parse l ≡ right c → fault b (right c) ≡ none → Reach b k (l ∷ []) (add (length l + 1) b c) (k + 1)
 unfolding readOn
-reach-one b k l p e f = record { on = λ rest. rw (e, f) refl }
+reach-one b k l c e f = record { on = λ rest. rw (e, f) refl }
 
 reach-append : (b b₁ b₂ : Book) (k k₁ k₂ : ℕ) (x y : List (List ℕ)) → Reach b k x b₁ k₁ → Reach b₁ k₁ y b₂ k₂ → Reach b k (x ++ y) b₂ k₂
 reach-append b b₁ b₂ k k₁ k₂ x y p q = record { on = λ rest. ap (readOn b k) (append-assoc x y rest) ∙ p .on (y ++ rest) ∙ q .on rest }
 
 -- ---- one node
-node-right : (b : Book) (op v : ℕ) → isNil (b .due) ≡ false → lastOf (b .counts) < 256 → length (b .ops) < 1024 → headOf (b .due) ≤ 64 → fault b (spec.node op v) ≡ none
-unfolding fault firstFault passes stands labelled numbered books.within
+node-right : (b : Book) (op v : ℕ) → isNil (b .due) ≡ false → lastOf (b .counts) < 256 → length (b .ops) < 1024 → headOf (b .due) ≤ 64 → fault b (right (spec.node op v)) ≡ none
+unfolding fault firstFault stands books.within
 node-right b op v d m n p = rw (d, lt-ltb (lastOf (b .counts)) 256 m, lt-ltb (length (b .ops)) 1024 n, le-leb (headOf (b .due)) 64 p) refl
 
 -- the nodes read of the rule in hand, which had `own` before
@@ -198,8 +198,8 @@ tokens-ok (two o t u) w h =
     (two-ok o (h .0), ok-append (prefix t) (prefix u) (tokens-ok t a (bounded-left (prefix t) (prefix u) (h .1))) (tokens-ok u c (bounded-right (prefix t) (prefix u) (h .1))))
 
 -- ---- the rules
-rule-right : (b : Book) (l : List ℕ) (k : ℕ) → b .due ≡ [] → b .steps ≡ [] → length (b .labels) < 64 → fault b (rule l k) ≡ none
-unfolding fault firstFault passes stands labelled numbered books.within
+rule-right : (b : Book) (l : List ℕ) (k : ℕ) → b .due ≡ [] → b .steps ≡ [] → length (b .labels) < 64 → fault b (right (rule l k)) ≡ none
+unfolding fault firstFault stands books.within
 rule-right b l k d s m = rw (ap isNil d, ap isNil s, lt-ltb (length (b .labels)) 64 m) refl
 
 pub record RulesRead (b : Book) (k : ℕ) (rs : List RuleText) : Type 0 where
@@ -252,8 +252,8 @@ rules-read (r ∷ rs) b k d s l m n = one-rule r rs b k d s (l .0) m n (λ (c : 
         }
 
 -- ---- the steps
-step-right : (b : Book) (u w : ℕ) → b .due ≡ [] → fault b (step u w) ≡ none
-unfolding fault firstFault passes stands labelled numbered books.within
+step-right : (b : Book) (u w : ℕ) → b .due ≡ [] → fault b (right (step u w)) ≡ none
+unfolding fault firstFault stands books.within
 step-right b u w d = rw (ap isNil d) refl
 
 pub record StepsRead (b : Book) (k : ℕ) (ss : List StepLine) : Type 0 where

@@ -8,6 +8,9 @@ use reader::steps::next_step;
 use terms::limit::BOOK_NODES;
 use terms::limit::BOOK_RULES;
 
+// The most places that a table here has.
+const PLACES: usize = 2050;
+
 fn put(s: &[u8]) {
     io::write_all(STDOUT_FILENO, s);
 }
@@ -26,45 +29,83 @@ fn show_size(n: usize) {
     show(n as u64);
 }
 
-// Whether every place from `from` on holds its mark.
-fn kept_bytes(s: &[u8], from: usize, mark: u8) -> bool {
-    let mut i = from;
-    while i < s.len() {
-        if s[i] != mark {
-            return false;
-        }
-        i += 1;
-    }
-    true
+// A place of a table: what it holds, or that the table ends before it.
+enum Cell {
+    Holds(u64),
+    End,
 }
 
-fn kept_sizes(s: &[usize], from: usize) -> bool {
-    let mut i = from;
-    while i < s.len() {
-        if s[i] != 7 {
-            return false;
-        }
-        i += 1;
+fn byte_at(s: &[u8], i: usize) -> Cell {
+    if i < s.len() {
+        return Cell::Holds(wide(s[i]));
     }
-    true
+    Cell::End
 }
 
-fn kept_words(s: &[u64], from: usize) -> bool {
-    let mut i = from;
-    while i < s.len() {
-        if s[i] != 7 {
-            return false;
-        }
-        i += 1;
+fn size_at(s: &[usize], i: usize) -> Cell {
+    if i < s.len() {
+        let n = s[i];
+        return Cell::Holds(n as u64);
     }
-    true
+    Cell::End
 }
 
-fn kept_labels(s: &[u8], rules: usize) -> bool {
-    if BOOK_RULES < rules {
-        return false;
+fn word_at(s: &[u64], i: usize) -> Cell {
+    if i < s.len() {
+        return Cell::Holds(s[i]);
     }
-    kept_bytes(s, 32 * rules, 46)
+    Cell::End
+}
+
+// A place of a table, the tables numbered as they are lent.
+fn cell_at(
+    labels: &[u8],
+    lens: &[usize],
+    kinds: &[u8],
+    firsts: &[usize],
+    counts: &[usize],
+    ops: &[u8],
+    nums: &[u64],
+    table: u8,
+    i: usize,
+) -> Cell {
+    match table {
+        0 => byte_at(labels, i),
+        1 => size_at(lens, i),
+        2 => byte_at(kinds, i),
+        3 => size_at(firsts, i),
+        4 => size_at(counts, i),
+        5 => byte_at(ops, i),
+        _ => word_at(nums, i),
+    }
+}
+
+// Whether every place of a table from `from` on holds its mark.
+fn kept(
+    labels: &[u8],
+    lens: &[usize],
+    kinds: &[u8],
+    firsts: &[usize],
+    counts: &[usize],
+    ops: &[u8],
+    nums: &[u64],
+    table: u8,
+    from: usize,
+    mark: u64,
+) -> bool {
+    let mut i = from;
+    while i < PLACES {
+        match cell_at(labels, lens, kinds, firsts, counts, ops, nums, table, i) {
+            Cell::End => return true,
+            Cell::Holds(v) => {
+                if v != mark {
+                    return false;
+                }
+                i += 1;
+            }
+        }
+    }
+    true
 }
 
 fn told(kept: bool) {
@@ -73,6 +114,41 @@ fn told(kept: bool) {
     } else {
         put(b" LOST");
     }
+}
+
+// Whether every table keeps its marks past so many rules and nodes.
+fn told_all(
+    labels: &[u8],
+    lens: &[usize],
+    kinds: &[u8],
+    firsts: &[usize],
+    counts: &[usize],
+    ops: &[u8],
+    nums: &[u64],
+    rules: usize,
+    nodes: usize,
+) {
+    if BOOK_RULES < rules {
+        return;
+    }
+    told(kept(
+        labels,
+        lens,
+        kinds,
+        firsts,
+        counts,
+        ops,
+        nums,
+        0,
+        32 * rules,
+        46,
+    ));
+    told(kept(labels, lens, kinds, firsts, counts, ops, nums, 1, rules, 7));
+    told(kept(labels, lens, kinds, firsts, counts, ops, nums, 2, rules, 7));
+    told(kept(labels, lens, kinds, firsts, counts, ops, nums, 3, rules, 7));
+    told(kept(labels, lens, kinds, firsts, counts, ops, nums, 4, rules, 7));
+    told(kept(labels, lens, kinds, firsts, counts, ops, nums, 5, nodes, 7));
+    told(kept(labels, lens, kinds, firsts, counts, ops, nums, 6, nodes, 7));
 }
 
 // One rule: its 32 bytes of label, its length, kind, first place and count.
@@ -185,13 +261,7 @@ fn report(
             put(b" refused");
             show(number as u64);
             show_size(line);
-            told(kept_bytes(labels, 0, 46));
-            told(kept_sizes(lens, 0));
-            told(kept_bytes(kinds, 0, 7));
-            told(kept_sizes(firsts, 0));
-            told(kept_sizes(counts, 0));
-            told(kept_bytes(ops, 0, 7));
-            told(kept_words(nums, 0));
+            told_all(labels, lens, kinds, firsts, counts, ops, nums, 0, 0);
             put(b"\n");
         }
         Answer::Read {
@@ -203,13 +273,7 @@ fn report(
             show_size(rules);
             show_size(nodes);
             show_size(steps_at);
-            told(kept_labels(labels, rules));
-            told(kept_sizes(lens, rules));
-            told(kept_bytes(kinds, rules, 7));
-            told(kept_sizes(firsts, rules));
-            told(kept_sizes(counts, rules));
-            told(kept_bytes(ops, nodes, 7));
-            told(kept_words(nums, nodes));
+            told_all(labels, lens, kinds, firsts, counts, ops, nums, rules, nodes);
             put(b"\n");
             show_rules(labels, lens, kinds, firsts, counts, rules);
             show_nodes(ops, nums, nodes);
@@ -220,7 +284,7 @@ fn report(
 
 // A text read into tables of a given size.
 fn read_text(text: &[u8]) {
-    let mut labels = [46u8; 2050];
+    let mut labels = [46u8; PLACES];
     let mut lens = [7usize; 66];
     let mut kinds = [7u8; 65];
     let mut firsts = [7usize; BOOK_RULES];

@@ -28,7 +28,7 @@ use Rattle.lent.specs.Lent.{LentMonitor}
 use Rattle.stepping.specs.Call as Stepping
 use Rattle.stepping.specs.Call.{stepCall}
 use Rattle.stepping.specs.Fresh as Making
-use Rattle.stepping.specs.Fresh.{making, freshCall}
+use Rattle.stepping.specs.Fresh.{freshCall, FreshAnswers}
 use Rattle.runs.specs.declared.RunVerdict.{RunVerdict}
 use Rattle.runs.specs.Run as Runs
 use Rattle.runs.specs.Run.{runCall}
@@ -36,13 +36,13 @@ use Rattle.listing.specs.declared.whole.Listed.{Listed}
 use Rattle.listing.specs.Lists as Lists
 use Rattle.listing.specs.Lists.{listCall}
 use Rattle.cavewatch_c.specs.Numbers.{Told, told, bookTold, lineTold, countTold, madeTold, stepTold, runTold}
-use Rattle.cavewatch_c.specs.Said.{Says, toldBy, SmallLine}
+use Rattle.cavewatch_c.specs.Said.{SaysTold, toldBy, SmallLine}
 use Rattle.cavewatch_c.specs.declared.tell.Said.{Said}
 use Rattle.cavewatch_c.specs.Calls.{ReadBook, NextStep, CompileRule, Fresh, Step, Run, ListBook}
 
 -- ---- what is said of an answer is said of the result that it is
-module _ (x : Said) (found : List ℕ) (r : ℕ) (found′ : List ℕ) (s : Says (toldBy x) found r found′) where
-  says : {A : Type 0} (f : A → Told) (a b : A) → a ≡ b → toldBy x ≡ f a → Says (f b) found r found′
+module _ (x : Said) (found : List ℕ) (r : ℕ) (found′ : List ℕ) (s : SaysTold (toldBy x) found r found′) where
+  says : {A : Type 0} (f : A → Told) (a b : A) → a ≡ b → toldBy x ≡ f a → SaysTold (f b) found r found′
   says f a b e o = record {
     number-is = s .number-is ∙ ap (λ (y : Told). y .number) (o ∙ ap f e);
     found-is = s .found-is ∙ ap (λ (y : Told). sets found 0 (y .numbers)) (o ∙ ap f e);
@@ -73,7 +73,7 @@ module _ (x : Said) (found : List ℕ) (r : ℕ) (found′ : List ℕ) (s : Says
   }
 
   pub run-told : (t : Lent.LentTables) (k : LentMonitor) (s : ℕ) (words : List ℕ) (v : RunVerdict) (mem′ : Memory)
-      → Runs.Answers (runCall t k s words) v mem′
+      → Stepping.Answers (runCall t k s words) (Runs.resultOf v) mem′
       → toldBy x ≡ told runTold (Runs.resultOf v)
       → Run t k s words found r mem′ found′
   run-told t k s words v mem′ d o = record {
@@ -93,7 +93,7 @@ module _ (x : Said) (found : List ℕ) (r : ℕ) (found′ : List ℕ) (s : Says
 -- ---- the calls that answer a number alone
 module _ (t : Lent.LentTables) (r : ℕ) where
   pub fresh-told : (forms bounds : List ℕ) (mem : Memory) (o : Outcome) (forms′ bounds′ : List ℕ) (mem′ : Memory)
-      → freshCall t forms bounds mem o forms′ bounds′ mem′
+      → FreshAnswers t forms bounds mem o forms′ bounds′ mem′
       → r ≡ told madeTold (Making.resultOf o) .number
       → Fresh t forms bounds mem r forms′ bounds′ mem′
   fresh-told forms bounds mem o forms′ bounds′ mem′ d e = record {
@@ -104,7 +104,7 @@ module _ (t : Lent.LentTables) (r : ℕ) where
   }
 
   pub step-told : (k : LentMonitor) (s w : ℕ) (v : Verdict) (mem′ : Memory)
-      → Stepping.Answers (stepCall t k s w) v mem′
+      → Stepping.Answers (stepCall t k s w) (Stepping.resultOf v) mem′
       → r ≡ told stepTold (Stepping.resultOf v) .number
       → Step t k s w r mem′
   step-told k s w v mem′ d e = record {

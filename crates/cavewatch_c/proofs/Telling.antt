@@ -27,25 +27,25 @@ use Rattle.listing.specs.Lists as Listing
 use Rattle.listing.specs.declared.whole.Listed.{Listed}
 use Rattle.listing.specs.declared.whole.Listed.the-variants.{Text, Refused as NotListed}
 use Rattle.cavewatch_c.specs.Numbers.{Told, told, bookTold, lineTold, countTold, stepTold, runTold}
-use Rattle.cavewatch_c.specs.Said.{Says, toldBy, SmallLine}
+use Rattle.cavewatch_c.specs.Said.{SaysTold, toldBy, SmallLine}
 use Rattle.cavewatch_c.specs.declared.tell.Said.{Said}
 use Rattle.cavewatch_c.specs.declared.tell.Said.the-variants.{Number, One, Three}
 
 -- ---- what is said is written
 module _ (x : Said) (found : List ℕ) where
-  says-as : (y : Said) → x ≡ y → Says (toldBy x) found (toldBy y .number) (sets found 0 (toldBy y .numbers))
+  says-as : (y : Said) → x ≡ y → SaysTold (toldBy x) found (toldBy y .number) (sets found 0 (toldBy y .numbers))
   says-as y e = record {
     number-is = sym (ap (λ (z : Said). toldBy z .number) e);
     found-is = sym (ap (λ (z : Said). sets found 0 (toldBy z .numbers)) e);
   }
 
-  pub says-number : (n : ℕ) → x ≡ Number n → Says (toldBy x) found n found
+  pub says-number : (n : ℕ) → x ≡ Number n → SaysTold (toldBy x) found n found
   says-number n e = says-as (Number n) e
 
-  pub says-one : (n a : ℕ) → x ≡ One n a → Says (toldBy x) found n (set found 0 a)
+  pub says-one : (n a : ℕ) → x ≡ One n a → SaysTold (toldBy x) found n (set found 0 a)
   says-one n a e = says-as (One n a) e
 
-  pub says-three : (a b c : ℕ) → x ≡ Three a b c → Says (toldBy x) found 0 (set (set (set found 0 a) 1 b) 2 c)
+  pub says-three : (a b c : ℕ) → x ≡ Three a b c → SaysTold (toldBy x) found 0 (set (set (set found 0 a) 1 b) 2 c)
   says-three a b c e = says-as (Three a b c) e
 
 -- ---- a book

@@ -10,7 +10,7 @@ use Rattle.cavewatch_c.specs.Numbers.{Told, tell}
 use Rattle.cavewatch_c.specs.declared.tell.Said.{Said}
 use Rattle.cavewatch_c.specs.declared.tell.Said.the-variants.{Number, One, Three}
 
-pub record Says (t : Told) (found : List ℕ) (r : ℕ) (found′ : List ℕ) : Type 0 where
+pub record SaysTold (t : Told) (found : List ℕ) (r : ℕ) (found′ : List ℕ) : Type 0 where
   pub number-is : r ≡ t .number
   pub found-is : found′ ≡ sets found 0 (t .numbers)
 

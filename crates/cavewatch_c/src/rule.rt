@@ -45,8 +45,8 @@ pub extern "C" fn cavewatch_fresh(
     failed: &mut [bool],
     culprits: &mut [i64],
 ) -> u64
-    ensures { λ r. ⌜ Fresh (tables (now (ops .entry)) (now (nums .entry)) first count (now (nodes .entry)) nfirst ncount) (now (forms .entry))
-        (now (bounds .entry)) (entries (now (held .entry)) (now (remaining .entry)) (now (failed .entry)) (now (culprits .entry))) r
+    ensures { λ r. ⌜ Fresh (tables (now (ops .entry)) (now (nums .entry)) first count (now (nodes .entry)) nfirst ncount)
+        (now (forms .entry)) (now (bounds .entry)) (entries (now (held .entry)) (now (remaining .entry)) (now (failed .entry)) (now (culprits .entry))) r
         (now (forms .exit)) (now (bounds .exit)) (entries (now (held .exit)) (now (remaining .exit)) (now (failed .exit)) (now (culprits .exit))) ⌝ }
 {
     let outcome = fresh(
@@ -137,8 +137,7 @@ pub extern "C" fn cavewatch_run(
     ensures { λ r. ⌜ Run (tables (now (ops .entry)) (now (nums .entry)) first count (now (nodes .entry)) nfirst ncount)
         (monitorOf size (now (forms .entry)) (now (bounds .entry))
         (entries (now (held .entry)) (now (remaining .entry)) (now (failed .entry)) (now (culprits .entry)))) s (now (words .entry))
-        (now (found .entry)) r (entries (now (held .exit)) (now (remaining .exit)) (now (failed .exit)) (now (culprits .exit)))
-        (now (found .exit)) ⌝ }
+        (now (found .entry)) r (entries (now (held .exit)) (now (remaining .exit)) (now (failed .exit)) (now (culprits .exit))) (now (found .exit)) ⌝ }
 {
     let verdict = run(
         ops,

@@ -16,7 +16,7 @@ ghost use Rattle.stepping.specs.Fresh as Making;
 ghost use Rattle.runs.specs.Run as Running;
 ghost use Rattle.listing.specs.Lists as Listing;
 ghost use Rattle.cavewatch_c.specs.Numbers.{told, bookTold, lineTold, countTold, madeTold, stepTold, runTold};
-ghost use Rattle.cavewatch_c.specs.Said.{toldBy, Says, SmallLine};
+ghost use Rattle.cavewatch_c.specs.Said.{toldBy, SaysTold, SmallLine};
 
 // A number alone; a number and one further; three further ones, the number being 0.
 pub enum Said {
@@ -27,7 +27,7 @@ pub enum Said {
 
 // The number is answered, the further ones are written.
 pub fn say(said: Said, found: &mut [u64; 3]) -> u64
-    ensures { λ r. ⌜ Says (toldBy said) (now (found .entry)) r (now (found .exit)) ⌝ }
+    ensures { λ r. ⌜ SaysTold (toldBy said) (now (found .entry)) r (now (found .exit)) ⌝ }
 {
     match said {
         Said::Number(n) => {

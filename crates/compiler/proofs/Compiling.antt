@@ -14,7 +14,7 @@ use Rattle.formula.specs.Tree.{leaf, one, two, size}
 use Rattle.formula.specs.Spells.{Spells}
 use Rattle.formula.specs.Formula.{Formula, Atom, signal, not, next, always, eventually, always-for, within, and, or, implies, until}
 use Rattle.formula.specs.Table.{nodeAt, Placed}
-use Rattle.formula.specs.Pure.{pure}
+use Rattle.formula.specs.Pure.{pure, unless}
 use Rattle.formula.specs.Signal.{Purely}
 use Rattle.formula.proofs.Trees.{size-pos}
 use Rattle.formula.proofs.Nodes.{unary-number}
@@ -29,8 +29,8 @@ use Rattle.compiler.specs.declared.Laid.{Laid}
 use Rattle.compiler.specs.declared.Laid.the-variants.{Upto, Refused}
 use Rattle.monitor.specs.Range.{allOf, uptoOf, shiftedOf, Shiftable}
 use Rattle.monitor.specs.Mon.{always-true, at, Check, range-check, delayed-check, obligation, Mon, check, And, Or, count, rows, nodeRow, nodeOf}
-use Rattle.monitor.specs.Compile.{when, unless, consequent, faults, anchor, implication, node}
-use Rattle.compiler.specs.Compiled.{CompileReady, Implied, LaidAt, CompiledAt}
+use Rattle.monitor.specs.Compile.{when, consequent, faults, anchor, implication, node}
+use Rattle.compiler.specs.Compiled.{CompileReady, Implied, LaidAt, CheckLaid, CompiledAt}
 use Rattle.compiler.proofs.Words.{is-not, is-next, is-always, is-eventually, is-always-for, is-within, is-and, is-or, is-implies, is-until}
 
 -- ---- what a walk is handed
@@ -63,6 +63,21 @@ module _ (ops nums : List ℕ) (i : ℕ) (r : AnchorRange) (out : List ℕ) (to 
   placed-of-within h = placed-operand (omega arith) (omega arith)
 
 -- ---- one check stored, or one refusal
+module _ (ops nums : List ℕ) (p n : ℕ) (out : List ℕ) (to : ℕ) (row : MonNode) (k : Walk) (a : Purely ops nums p k) where
+  pub impure-laid : k ≡ Stuck → CheckLaid ops nums p n out to row out (Refused n)
+  impure-laid q = record {
+    is = λ c y g s. subst (λ (b : Bool). LaidAt (unless b n) (check c) to (p + size g) out out (Refused n)) (sym (purely-no ops nums p k a g s q)) refl;
+  }
+
+  pub pure-row : (e : ℕ) (out′ : List ℕ) (z : Laid) → k ≡ Ends e → (z ≡ Upto (to + 1) e) × (out′ ≡ sets out (7 * to) (nodeRow row)) → CheckLaid ops nums p n out to row out′ z
+  unfolding count rows
+  pure-row e out′ z q w = record {
+    is = λ c y g s.
+        let (b, m) = purely-yes ops nums p k a g s e q in
+        subst (λ (x : Bool). LaidAt (unless x n) (check c) to (p + size g) out out′ z) (sym b)
+        (w .0 ∙ ap (Upto (to + 1)) m, w .1 ∙ ap (λ (x : MonNode). sets out (7 * to) (nodeRow x)) y);
+  }
+
 module _ (fs : List ℕ) (m : Mon) (to e : ℕ) (out out′ : List ℕ) (z : Laid) where
   laid-check : (c : Check) → fs ≡ [] → m ≡ check c → (z ≡ Upto (to + 1) e) × (out′ ≡ sets out (7 * to) (nodeRow (nodeOf c))) → LaidAt fs m to e out out′ z
   unfolding count rows
@@ -75,7 +90,8 @@ module _ (fs : List ℕ) (m : Mon) (to e : ℕ) (out out′ : List ℕ) (z : Lai
 
 module _ (ops nums : List ℕ) (i : ℕ) (r : AnchorRange) (t : Bool) (out out′ : List ℕ) (to : ℕ) (z : Laid) where
   -- a check of the formula f, which ends at e
-  compiled-check : (f : Formula) (s : Spells (nodeAt ops nums) i f) (e : ℕ) (c : Check) → faults f t ≡ [] → node f i r t ≡ check c → e ≡ i + size f → (z ≡ Upto (to + 1) e) × (out′ ≡ sets out (7 * to) (nodeRow (nodeOf c))) → LaidAt (faults f t) (node f i r t) to (i + size f) out out′ z
+  compiled-check : (f : Formula) (s : Spells (nodeAt ops nums) i f) (e : ℕ) (c : Check) → faults f t ≡ [] → node f i r t ≡ check c → e ≡ i + size f
+      → (z ≡ Upto (to + 1) e) × (out′ ≡ sets out (7 * to) (nodeRow (nodeOf c))) → LaidAt (faults f t) (node f i r t) to (i + size f) out out′ z
   compiled-check f s e c p q k w = laid-check (faults f t) (node f i r t) to (i + size f) out out′ z c p q (w .0 ∙ ap (Upto (to + 1)) k, w .1)
 
   pub atom-laid : getD ops i 0 < 3 → (z ≡ Upto (to + 1) (i + 1)) × (out′ ≡ sets out (7 * to) (nodeRow (RangeCheck (At i) r))) → CompiledAt ops nums i r t out to out′ z
@@ -90,71 +106,45 @@ module _ (ops nums : List ℕ) (i : ℕ) (r : AnchorRange) (t : Bool) (out out�
         w;
   }
 
-  module _ (k : Walk) (p : Purely ops nums (i + 1) k) (e : ℕ) where
-    pub not-laid : getD ops i 0 ≡ 3 → k ≡ Ends e → (z ≡ Upto (to + 1) e) × (out′ ≡ sets out (7 * to) (nodeRow (RangeCheck (At i) r))) → CompiledAt ops nums i r t out to out′ z
-    unfolding faults node size
-    not-laid h q w = record {
-      is = λ f s.
-          let (g, u, v) = is-not ops nums i f s h in
-          let (b, n) = purely-yes ops nums (i + 1) k p g v e q in
-          compiled-check f s e (range-check (at i (one not g)) r)
-          (ap (λ (x : Formula). faults x t) u ∙ ap (λ (x : Bool). unless x 18) b)
-          (ap (λ (x : Formula). node x i r t) u)
-          (omega (arith, ap (λ (x : Formula). size x) u))
-          w;
-    }
+  -- the same of a check whose formula ends with a pure one
+  compiled-as : (f : Formula) (fs : List ℕ) (c : Check) (e : ℕ) → faults f t ≡ fs → node f i r t ≡ check c → i + size f ≡ e → LaidAt fs (check c) to e out out′ z
+      → LaidAt (faults f t) (node f i r t) to (i + size f) out out′ z
+  compiled-as f fs c e p q k w =
+      subst (λ (x : List ℕ). LaidAt x (node f i r t) to (i + size f) out out′ z) (sym p)
+      (subst (λ (x : Mon). LaidAt fs x to (i + size f) out out′ z) (sym q) (subst (λ (x : ℕ). LaidAt fs (check c) to x out out′ z) (sym k) w))
 
-    pub next-laid : (r′ : AnchorRange) → getD ops i 0 ≡ 4 → k ≡ Ends e → r′ ≡ shiftedOf r → (z ≡ Upto (to + 1) e) × (out′ ≡ sets out (7 * to) (nodeRow (RangeCheck (At (i + 1)) r′))) → CompiledAt ops nums i r t out to out′ z
-    unfolding faults node size
-    next-laid r′ h q y w = record {
-      is = λ f s.
-          let (g, u, v) = is-next ops nums i f s h in
-          let (b, n) = purely-yes ops nums (i + 1) k p g v e q in
-          compiled-check f s e (range-check (at (i + 1) g) r′)
-          (ap (λ (x : Formula). faults x t) u ∙ ap (λ (x : Bool). unless x 17) b)
-          (ap (λ (x : Formula). node x i r t) u ∙ ap (λ (x : AnchorRange). check (range-check (at (i + 1) g) x)) (sym y))
-          (omega (arith, ap (λ (x : Formula). size x) u))
-          w;
-    }
+  pub not-laid : getD ops i 0 ≡ 3 → CheckLaid ops nums (i + 1) 18 out to (RangeCheck (At i) r) out′ z → CompiledAt ops nums i r t out to out′ z
+  unfolding faults node size
+  not-laid h w = record {
+    is = λ f s.
+        let (g, u, v) = is-not ops nums i f s h in
+        compiled-as f _ _ _ (ap (λ (x : Formula). faults x t) u) (ap (λ (x : Formula). node x i r t) u) (omega (arith, ap (λ (x : Formula). size x) u))
+        (w .is (range-check (at i (one not g)) r) refl g v);
+  }
 
-    pub within-laid : (r′ : AnchorRange) → getD ops i 0 ≡ 8 → k ≡ Ends e → r′ ≡ anchor t r → (z ≡ Upto (to + 1) e) × (out′ ≡ sets out (7 * to) (nodeRow (Obligation (getD nums i 0) True (At (i + 1)) r′))) → CompiledAt ops nums i r t out to out′ z
-    unfolding faults node size
-    within-laid r′ h q y w = record {
-      is = λ f s.
-          let (g, u, v) = is-within ops nums i f s h in
-          let (b, n) = purely-yes ops nums (i + 1) k p g v e q in
-          compiled-check f s e (obligation (getD nums i 0) always-true (at (i + 1) g) r′)
-          (ap (λ (x : Formula). faults x t) u ∙ ap (λ (x : Bool). unless x 14) b)
-          (ap (λ (x : Formula). node x i r t) u ∙ ap (λ (x : AnchorRange). check (obligation (getD nums i 0) always-true (at (i + 1) g) x)) (sym y))
-          (omega (arith, ap (λ (x : Formula). size x) u))
-          w;
-    }
+  pub next-laid : (r′ : AnchorRange) → getD ops i 0 ≡ 4 → r′ ≡ shiftedOf r → CheckLaid ops nums (i + 1) 17 out to (RangeCheck (At (i + 1)) r′) out′ z
+      → CompiledAt ops nums i r t out to out′ z
+  unfolding faults node size
+  next-laid r′ h y w = record {
+    is = λ f s.
+        let (g, u, v) = is-next ops nums i f s h in
+        compiled-as f _ _ _ (ap (λ (x : Formula). faults x t) u)
+        (ap (λ (x : Formula). node x i r t) u ∙ ap (λ (x : AnchorRange). check (range-check (at (i + 1) g) x)) (sym y))
+        (omega (arith, ap (λ (x : Formula). size x) u))
+        (w .is (range-check (at (i + 1) g) r′) refl g v);
+  }
 
-module _ (ops nums : List ℕ) (i : ℕ) (r : AnchorRange) (t : Bool) (out : List ℕ) (to : ℕ) where
-  module _ (k : Walk) (p : Purely ops nums (i + 1) k) where
-    pub not-refused : getD ops i 0 ≡ 3 → k ≡ Stuck → CompiledAt ops nums i r t out to out (Refused 18)
-    unfolding faults
-    not-refused h q = record {
-      is = λ f s.
-          let (g, u, v) = is-not ops nums i f s h in
-          laid-refused _ _ _ _ _ _ _ 18 [] (ap (λ (x : Formula). faults x t) u ∙ ap (λ (x : Bool). unless x 18) (purely-no ops nums (i + 1) k p g v q)) refl;
-    }
-
-    pub next-refused : getD ops i 0 ≡ 4 → k ≡ Stuck → CompiledAt ops nums i r t out to out (Refused 17)
-    unfolding faults
-    next-refused h q = record {
-      is = λ f s.
-          let (g, u, v) = is-next ops nums i f s h in
-          laid-refused _ _ _ _ _ _ _ 17 [] (ap (λ (x : Formula). faults x t) u ∙ ap (λ (x : Bool). unless x 17) (purely-no ops nums (i + 1) k p g v q)) refl;
-    }
-
-    pub within-refused : getD ops i 0 ≡ 8 → k ≡ Stuck → CompiledAt ops nums i r t out to out (Refused 14)
-    unfolding faults
-    within-refused h q = record {
-      is = λ f s.
-          let (g, u, v) = is-within ops nums i f s h in
-          laid-refused _ _ _ _ _ _ _ 14 [] (ap (λ (x : Formula). faults x t) u ∙ ap (λ (x : Bool). unless x 14) (purely-no ops nums (i + 1) k p g v q)) refl;
-    }
+  pub within-laid : (r′ : AnchorRange) → getD ops i 0 ≡ 8 → r′ ≡ anchor t r → CheckLaid ops nums (i + 1) 14 out to (Obligation (getD nums i 0) True (At (i + 1)) r′) out′ z
+      → CompiledAt ops nums i r t out to out′ z
+  unfolding faults node size
+  within-laid r′ h y w = record {
+    is = λ f s.
+        let (g, u, v) = is-within ops nums i f s h in
+        compiled-as f _ _ _ (ap (λ (x : Formula). faults x t) u)
+        (ap (λ (x : Formula). node x i r t) u ∙ ap (λ (x : AnchorRange). check (obligation (getD nums i 0) always-true (at (i + 1) g) x)) (sym y))
+        (omega (arith, ap (λ (x : Formula). size x) u))
+        (w .is (obligation (getD nums i 0) always-true (at (i + 1) g) r′) refl g v);
+  }
 
 pub anchored-not : (t : Bool) (r r′ : AnchorRange) → t ≡ false → r′ ≡ uptoOf 0 → r′ ≡ anchor t r
 anchored-not t r r′ h e = e ∙ sym (ap (λ (b : Bool). anchor b r) h)
@@ -164,7 +154,8 @@ anchored-yes t r h = sym (ap (λ (b : Bool). anchor b r) h)
 
 -- ---- implications
 -- a consequent that is neither `within` nor `next`: the whole implication is the signal
-other : (ops nums : List ℕ) (j : ℕ) (c : Formula) → Spells (nodeAt ops nums) j c → (getD ops j 0 ≡ 8 → ⊥) → (getD ops j 0 ≡ 4 → ⊥) → (l : Formula) (i : ℕ) (r : AnchorRange) (t : Bool) → (consequent c ≡ unless (pure c) 16) × (implication l c i j r t ≡ range-check (at i (two implies l c)) r)
+other : (ops nums : List ℕ) (j : ℕ) (c : Formula) → Spells (nodeAt ops nums) j c → (getD ops j 0 ≡ 8 → ⊥) → (getD ops j 0 ≡ 4 → ⊥)
+    → (l : Formula) (i : ℕ) (r : AnchorRange) (t : Bool) → (consequent c ≡ unless (pure c) 16) × (implication l c i j r t ≡ range-check (at i (two implies l c)) r)
 unfolding consequent implication Spells nodeAt
 other ops nums j (leaf a) s h h′ l i r t = (refl, refl)
 other ops nums j (one not f) s h h′ l i r t = (refl, refl)
@@ -230,88 +221,52 @@ module _ (ops nums : List ℕ) (i j : ℕ) (r : AnchorRange) (out : List ℕ) (t
       let (b, n) = purely-yes ops nums (i + 1) (Ends j) (d .left) l v j refl in
       (l, c, u, b, n, subst (λ (m : ℕ). Spells (nodeAt ops nums) m c) (sym n) w)
 
-  module _ (t : Bool) (out′ : List ℕ) (z : Laid) (e : ℕ) (k : Walk) where
+  module _ (t : Bool) (out′ : List ℕ) (z : Laid) where
     -- a check of an implication, in terms of its parts
-    implied-check : (f l c : Formula) (s : Spells (nodeAt ops nums) i f) → f ≡ two implies l c → pure l ≡ true → j ≡ i + 1 + size l → (x : Check) → consequent c ≡ [] → implication l c i j r t ≡ x → e ≡ j + size c → (z ≡ Upto (to + 1) e) × (out′ ≡ sets out (7 * to) (nodeRow (nodeOf x))) → LaidAt (faults f t) (node f i r t) to (i + size f) out out′ z
+    implied-as : (f l c : Formula) → f ≡ two implies l c → pure l ≡ true → j ≡ i + 1 + size l → (x : Check) → implication l c i j r t ≡ x
+        → (fs : List ℕ) (e : ℕ) → consequent c ≡ fs → j + size c ≡ e → LaidAt fs (check x) to e out out′ z → LaidAt (faults f t) (node f i r t) to (i + size f) out out′ z
     unfolding faults node size
-    implied-check f l c s u b n x p q m w =
-        compiled-check ops nums i r t out out′ to z f s e x
+    implied-as f l c u b n x q fs e p m w =
+        compiled-as ops nums i r t out out′ to z f fs x e
         (ap (λ (y : Formula). faults y t) u ∙ ap (λ (y : Bool). unless y 13 ++ consequent c) b ∙ p)
         (ap (λ (y : Formula). node y i r t) u ∙ ap (λ (y : ℕ). check (implication l c i y r t)) (sym n) ∙ ap check q)
         (omega (arith, ap (λ (y : Formula). size y) u))
         w
 
-    pub owed-laid : (r′ : AnchorRange) → getD ops j 0 ≡ 8 → Purely ops nums (j + 1) k → k ≡ Ends e → r′ ≡ anchor t r → (z ≡ Upto (to + 1) e) × (out′ ≡ sets out (7 * to) (nodeRow (Obligation (getD nums j 0) (At (i + 1)) (At (j + 1)) r′))) → CompiledAt ops nums i r t out to out′ z
+    pub owed-laid : (r′ : AnchorRange) → getD ops j 0 ≡ 8 → r′ ≡ anchor t r
+        → CheckLaid ops nums (j + 1) 14 out to (Obligation (getD nums j 0) (At (i + 1)) (At (j + 1)) r′) out′ z → CompiledAt ops nums i r t out to out′ z
     unfolding consequent implication size
-    owed-laid r′ h p q y w = record {
+    owed-laid r′ h y w = record {
       is = λ f s.
           let (l, c, u, b, n, v) = parts f s in
           let (g, u′, v′) = is-within ops nums j c v h in
-          let (b′, n′) = purely-yes ops nums (j + 1) k p g v′ e q in
-          implied-check f l c s u b n (obligation (getD nums j 0) (at (i + 1) l) (at (j + 1) g) r′)
-          (ap consequent u′ ∙ ap (λ (x : Bool). unless x 14) b′)
+          implied-as f l c u b n (obligation (getD nums j 0) (at (i + 1) l) (at (j + 1) g) r′)
           (ap (λ (x : Formula). implication l x i j r t) u′ ∙ ap (λ (x : AnchorRange). obligation (getD nums j 0) (at (i + 1) l) (at (j + 1) g) x) (sym y))
-          (omega (arith, ap (λ (x : Formula). size x) u′))
-          w;
+          _ _ (ap consequent u′) (omega (arith, ap (λ (x : Formula). size x) u′)) (w .is _ refl g v′);
     }
 
-    pub delayed-laid : (r′ : AnchorRange) → getD ops j 0 ≡ 4 → Purely ops nums (j + 1) k → k ≡ Ends e → r′ ≡ shiftedOf r → (z ≡ Upto (to + 1) e) × (out′ ≡ sets out (7 * to) (nodeRow (DelayedCheck (At (i + 1)) (At (j + 1)) r′))) → CompiledAt ops nums i r t out to out′ z
+    pub delayed-laid : (r′ : AnchorRange) → getD ops j 0 ≡ 4 → r′ ≡ shiftedOf r
+        → CheckLaid ops nums (j + 1) 15 out to (DelayedCheck (At (i + 1)) (At (j + 1)) r′) out′ z → CompiledAt ops nums i r t out to out′ z
     unfolding consequent implication size
-    delayed-laid r′ h p q y w = record {
+    delayed-laid r′ h y w = record {
       is = λ f s.
           let (l, c, u, b, n, v) = parts f s in
           let (g, u′, v′) = is-next ops nums j c v h in
-          let (b′, n′) = purely-yes ops nums (j + 1) k p g v′ e q in
-          implied-check f l c s u b n (delayed-check (at (i + 1) l) (at (j + 1) g) r′)
-          (ap consequent u′ ∙ ap (λ (x : Bool). unless x 15) b′)
+          implied-as f l c u b n (delayed-check (at (i + 1) l) (at (j + 1) g) r′)
           (ap (λ (x : Formula). implication l x i j r t) u′ ∙ ap (λ (x : AnchorRange). delayed-check (at (i + 1) l) (at (j + 1) g) x) (sym y))
-          (omega (arith, ap (λ (x : Formula). size x) u′))
-          w;
+          _ _ (ap consequent u′) (omega (arith, ap (λ (x : Formula). size x) u′)) (w .is _ refl g v′);
     }
 
-    pub pure-laid : (getD ops j 0 ≡ 8 → ⊥) → (getD ops j 0 ≡ 4 → ⊥) → Purely ops nums j k → k ≡ Ends e → (z ≡ Upto (to + 1) e) × (out′ ≡ sets out (7 * to) (nodeRow (RangeCheck (At i) r))) → CompiledAt ops nums i r t out to out′ z
-    unfolding size
-    pure-laid h h′ p q w = record {
+    pub pure-laid : (getD ops j 0 ≡ 8 → ⊥) → (getD ops j 0 ≡ 4 → ⊥) → CheckLaid ops nums j 16 out to (RangeCheck (At i) r) out′ z → CompiledAt ops nums i r t out to out′ z
+    pure-laid h h′ w = record {
       is = λ f s.
           let (l, c, u, b, n, v) = parts f s in
           let (x, y) = other ops nums j c v h h′ l i r t in
-          let (b′, n′) = purely-yes ops nums j k p c v e q in
-          implied-check f l c s u b n (range-check (at i (two implies l c)) r)
-          (x ∙ ap (λ (a : Bool). unless a 16) b′) y n′ w;
+          implied-as f l c u b n (range-check (at i (two implies l c)) r) y _ _ x refl (w .is _ refl c v);
     }
 
-  module _ (t : Bool) (k : Walk) where
-    implied-refused : (f l c : Formula) (s : Spells (nodeAt ops nums) i f) → f ≡ two implies l c → pure l ≡ true → (n : ℕ) → consequent c ≡ n ∷ [] → LaidAt (faults f t) (node f i r t) to (i + size f) out out (Refused n)
-    unfolding faults
-    implied-refused f l c s u b n p = laid-refused _ _ _ _ _ _ _ n [] (ap (λ (y : Formula). faults y t) u ∙ ap (λ (y : Bool). unless y 13 ++ consequent c) b ∙ p) refl
-
-    pub owed-refused : getD ops j 0 ≡ 8 → Purely ops nums (j + 1) k → k ≡ Stuck → CompiledAt ops nums i r t out to out (Refused 14)
-    unfolding consequent
-    owed-refused h p q = record {
-      is = λ f s.
-          let (l, c, u, b, n, v) = parts f s in
-          let (g, u′, v′) = is-within ops nums j c v h in
-          implied-refused f l c s u b 14 (ap consequent u′ ∙ ap (λ (x : Bool). unless x 14) (purely-no ops nums (j + 1) k p g v′ q));
-    }
-
-    pub delayed-refused : getD ops j 0 ≡ 4 → Purely ops nums (j + 1) k → k ≡ Stuck → CompiledAt ops nums i r t out to out (Refused 15)
-    unfolding consequent
-    delayed-refused h p q = record {
-      is = λ f s.
-          let (l, c, u, b, n, v) = parts f s in
-          let (g, u′, v′) = is-next ops nums j c v h in
-          implied-refused f l c s u b 15 (ap consequent u′ ∙ ap (λ (x : Bool). unless x 15) (purely-no ops nums (j + 1) k p g v′ q));
-    }
-
-    pub pure-refused : (getD ops j 0 ≡ 8 → ⊥) → (getD ops j 0 ≡ 4 → ⊥) → Purely ops nums j k → k ≡ Stuck → CompiledAt ops nums i r t out to out (Refused 16)
-    pure-refused h h′ p q = record {
-      is = λ f s.
-          let (l, c, u, b, n, v) = parts f s in
-          let (x, y) = other ops nums j c v h h′ l i r t in
-          implied-refused f l c s u b 16 (x ∙ ap (λ (a : Bool). unless a 16) (purely-no ops nums j k p c v q));
-    }
-
-pub antecedent-refused : (ops nums : List ℕ) (i : ℕ) (r : AnchorRange) (t : Bool) (out : List ℕ) (to : ℕ) (k : Walk) → getD ops i 0 ≡ 11 → Purely ops nums (i + 1) k → k ≡ Stuck → CompiledAt ops nums i r t out to out (Refused 13)
+pub antecedent-refused : (ops nums : List ℕ) (i : ℕ) (r : AnchorRange) (t : Bool) (out : List ℕ) (to : ℕ) (k : Walk) → getD ops i 0 ≡ 11 → Purely ops nums (i + 1) k → k ≡ Stuck
+    → CompiledAt ops nums i r t out to out (Refused 13)
 unfolding faults
 antecedent-refused ops nums i r t out to k h p q = record {
   is = λ f s.

@@ -62,7 +62,8 @@ rows-length (And m n) = simp length-append (omega (arith, rows-length m, rows-le
 rows-length (Or m n) = simp length-append (omega (arith, rows-length m, rows-length n))
 
 -- ---- what an answer says of the refusals
-pub laid-upto : (fs : List ℕ) (m : Mon) (to e n j : ℕ) (out out′ : List ℕ) (z : Laid) → LaidAt fs m to e out out′ z → z ≡ Upto n j → (fs ≡ []) × (n ≡ to + count m) × (j ≡ e) × (out′ ≡ sets out (7 * to) (rows m))
+pub laid-upto : (fs : List ℕ) (m : Mon) (to e n j : ℕ) (out out′ : List ℕ) (z : Laid) → LaidAt fs m to e out out′ z → z ≡ Upto n j
+    → (fs ≡ []) × (n ≡ to + count m) × (j ≡ e) × (out′ ≡ sets out (7 * to) (rows m))
 laid-upto [] m to e n j out out′ z w q = (refl, up-left (sym q ∙ w .0), up-right (sym q ∙ w .0), w .1)
   where
     up-left : {a b c d : ℕ} → Upto a b ≡ Upto c d → a ≡ c
@@ -138,7 +139,8 @@ module _ (ops nums : List ℕ) (i : ℕ) (r : AnchorRange) (t : Bool) (out : Lis
         laid-refused _ _ _ _ _ _ _ 12 _ (ap (λ (x : Formula). faults x t) u ∙ ap₂ (λ (x y : Bool). when x 11 ++ (when y 12 ++ faults g true)) q (eq-eqb (getD nums i 0) 0 b)) refl;
   }
 
-  pub always-for-laid : (r′ : AnchorRange) (out′ : List ℕ) (z : Laid) → getD ops i 0 ≡ 7 → t ≡ false → (getD nums i 0 ≡ 0 → ⊥) → r′ ≡ uptoOf (getD nums i 0 - 1) → CompiledAt ops nums (i + 1) r′ true out to out′ z → CompiledAt ops nums i r t out to out′ z
+  pub always-for-laid : (r′ : AnchorRange) (out′ : List ℕ) (z : Laid) → getD ops i 0 ≡ 7 → t ≡ false → (getD nums i 0 ≡ 0 → ⊥) → r′ ≡ uptoOf (getD nums i 0 - 1)
+      → CompiledAt ops nums (i + 1) r′ true out to out′ z → CompiledAt ops nums i r t out to out′ z
   unfolding faults node size
   always-for-laid r′ out′ z h q b e p = record {
     is = λ f s.
@@ -218,7 +220,8 @@ module _ (ops nums : List ℕ) (i : ℕ) (r : AnchorRange) (t : Bool) (g : 9 ≤
         }
 
     module _ (left : Laid) (out₂ : List ℕ) (c : CompiledAt ops nums (i + 1) r t out₁ (to + 1) out₂ left) where
-      left-upto : (m b : ℕ) → left ≡ Upto m b → (l : Formula) → Spells (nodeAt ops nums) (i + 1) l → (faults l t ≡ []) × (m ≡ to + 1 + count (node l (i + 1) r t)) × (b ≡ i + 1 + size l) × (out₂ ≡ sets out₁ (7 * (to + 1)) (rows (node l (i + 1) r t)))
+      left-upto : (m b : ℕ) → left ≡ Upto m b → (l : Formula) → Spells (nodeAt ops nums) (i + 1) l
+          → (faults l t ≡ []) × (m ≡ to + 1 + count (node l (i + 1) r t)) × (b ≡ i + 1 + size l) × (out₂ ≡ sets out₁ (7 * (to + 1)) (rows (node l (i + 1) r t)))
       left-upto m b q l s = laid-upto (faults l t) (node l (i + 1) r t) (to + 1) (i + 1 + size l) m b out₁ out₂ left (c .is l s) q
 
       pub pair-refused : (k : ℕ) → left ≡ Refused k → CompiledAt ops nums i r t out to out₂ left
@@ -252,7 +255,9 @@ module _ (ops nums : List ℕ) (i : ℕ) (r : AnchorRange) (t : Bool) (g : 9 ≤
             omega (arith, in-ops ops nums i p)
 
         -- three runs of stores are one
-        three : (l c′ : Formula) (out₃ : List ℕ) → m ≡ to + 1 + count (node l (i + 1) r t) → out₂ ≡ sets out₁ (7 * (to + 1)) (rows (node l (i + 1) r t)) → out₃ ≡ sets out₂ (7 * m) (rows (node c′ (i + 1 + size l) r t)) → out₃ ≡ sets out (7 * to) (nodeRow (joinNode (getD ops i 0)) ++ rows (node l (i + 1) r t) ++ rows (node c′ (i + 1 + size l) r t))
+        three : (l c′ : Formula) (out₃ : List ℕ) → m ≡ to + 1 + count (node l (i + 1) r t) → out₂ ≡ sets out₁ (7 * (to + 1)) (rows (node l (i + 1) r t))
+            → out₃ ≡ sets out₂ (7 * m) (rows (node c′ (i + 1 + size l) r t))
+            → out₃ ≡ sets out (7 * to) (nodeRow (joinNode (getD ops i 0)) ++ rows (node l (i + 1) r t) ++ rows (node c′ (i + 1 + size l) r t))
         three l c′ out₃ x w u =
             let a = nodeRow n in
             let y = rows (node l (i + 1) r t) in
@@ -266,7 +271,8 @@ module _ (ops nums : List ℕ) (i : ℕ) (r : AnchorRange) (t : Bool) (g : 9 ≤
             ∙ ap (λ (v : MonNode). sets out (7 * to) (nodeRow v ++ y ++ z)) e₀
 
         module _ (f : Formula) (j : Joins ops nums i r t f) (v : faults (j .left) t ≡ []) (x : m ≡ to + 1 + count (node (j .left) (i + 1) r t)) (y : b ≡ i + 1 + size (j .left)) (w : out₂ ≡ sets out₁ (7 * (to + 1)) (rows (node (j .left) (i + 1) r t))) (out₃ : List ℕ) (z : Laid) where
-          onto : (fs : List ℕ) → faults (j .right) t ≡ fs → LaidAt fs (node (j .right) (i + 1 + size (j .left)) r t) m (b + size (j .right)) out₂ out₃ z → LaidAt (faults f t) (node f i r t) to (i + size f) out out₃ z
+          onto : (fs : List ℕ) → faults (j .right) t ≡ fs → LaidAt fs (node (j .right) (i + 1 + size (j .left)) r t) m (b + size (j .right)) out₂ out₃ z
+              → LaidAt (faults f t) (node f i r t) to (i + size f) out out₃ z
           onto [] e u =
               subst (λ (k : List ℕ). LaidAt k (node f i r t) to (i + size f) out out₃ z) (sym (j .refusals ∙ ap₂ _++_ v e)) (
                 u .0 ∙ ap₂ Upto (omega (arith, j .counted)) (omega (arith, j .sized)),

@@ -14,7 +14,8 @@ module _ (ops nums : List ℕ) (i : ℕ) (f : Formula) (s : Spells (nodeAt ops n
   unfolding nodeAt
   word-one k o h e = spells-one (nodeAt ops nums) i o f (ap (λ (m : ℕ). node m (getD nums i 0)) h ∙ e) s
 
-  word-two : (k : ℕ) (o : Binary) → getD ops i 0 ≡ k → node k (getD nums i 0) ≡ two-of o → (l : Formula) × (r : Formula) × (f ≡ two o l r) × Spells (nodeAt ops nums) (i + 1) l × Spells (nodeAt ops nums) (i + 1 + size l) r
+  word-two : (k : ℕ) (o : Binary) → getD ops i 0 ≡ k → node k (getD nums i 0) ≡ two-of o
+      → (l : Formula) × (r : Formula) × (f ≡ two o l r) × Spells (nodeAt ops nums) (i + 1) l × Spells (nodeAt ops nums) (i + 1 + size l) r
   unfolding nodeAt
   word-two k o h e = spells-two (nodeAt ops nums) i o f (ap (λ (m : ℕ). node m (getD nums i 0)) h ∙ e) s
 

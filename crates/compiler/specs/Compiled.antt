@@ -10,12 +10,14 @@ use Prim.Native.Nat.{ℕ, _+_, _*_, _≤_}
 use lib.Dec.{leb}
 use lib.ListN.{length, getD}
 use lib.Seq.{sets}
-use Rattle.terms.specs.Limits.{nodeCells}
+use Rattle.terms.specs.Limits.{nodeCells, rowCells}
+use Rattle.terms.specs.Ops.{impliesOp}
 use Rattle.result.specs.Result.{Result, given, refused}
 use Rattle.formula.specs.Tree.{size}
 use Rattle.formula.specs.Spells.{Spells}
 use Rattle.formula.specs.Formula.{Formula}
 use Rattle.formula.specs.Table.{nodeAt, Placed, ruleOf, roomy}
+use Rattle.formula.specs.Pure.{pure, unless}
 use Rattle.formula.specs.Signal.{Purely}
 use Rattle.formula.specs.declared.table.Walk.the-variants.{Upto as Ends}
 use Rattle.monitor.specs.declared.range.AnchorRange.{AnchorRange}
@@ -24,28 +26,34 @@ use Rattle.compiler.specs.declared.Laid.the-variants.{Upto, Refused}
 use Rattle.compiler.specs.declared.Compiled.{Compiled}
 use Rattle.compiler.specs.declared.Compiled.the-variants.{Nodes, Refused as NotCompiled}
 use Rattle.monitor.specs.Range.{Shiftable}
-use Rattle.monitor.specs.Mon.{Mon, count, rows}
+use Rattle.monitor.specs.declared.node.MonNode.{MonNode}
+use Rattle.monitor.specs.Mon.{Check, Mon, check, count, nodeOf, rows}
 use Rattle.monitor.specs.Compile.{faults, node, ruleFaults, ruleNode}
 
 -- what the walk asks of its place, its range and the output
 pub record CompileReady (ops nums : List ℕ) (i : ℕ) (r : AnchorRange) (out : List ℕ) (at : ℕ) : Type 0 where
   pub place : Placed ops nums i
-  pub room : 7 * (at + size (place .formula)) ≤ length out
+  pub room : rowCells * (at + size (place .formula)) ≤ length out
   pub shift : Shiftable r
 
 -- an implication stands at i, whose left part is pure and ends at j
 pub record Implied (ops nums : List ℕ) (i j : ℕ) (r : AnchorRange) (out : List ℕ) (at : ℕ) : Type 0 where
   pub ready : CompileReady ops nums i r out at
-  pub word : getD ops i 0 ≡ 11
+  pub word : getD ops i 0 ≡ impliesOp
   pub left : Purely ops nums (i + 1) (Ends j)
 
 -- with no refusal: where the nodes and the formula end, and the nodes' rows from row `at` on. Else the first refusal
 abbrev pub LaidAt : List ℕ → Mon → ℕ → ℕ → List ℕ → List ℕ → Laid → Type 0
-LaidAt [] m at e out out′ r = (r ≡ Upto (at + count m) e) × (out′ ≡ sets out (7 * at) (rows m))
+LaidAt [] m at e out out′ r = (r ≡ Upto (at + count m) e) × (out′ ≡ sets out (rowCells * at) (rows m))
 LaidAt (n ∷ ns) m at e out out′ r = r ≡ Refused n
 
 pub record CompiledAt (ops nums : List ℕ) (i : ℕ) (range : AnchorRange) (temporal : Bool) (out : List ℕ) (at : ℕ) (out′ : List ℕ) (r : Laid) : Type 0 where
   pub is : (f : Formula) → Spells (nodeAt ops nums) i f → LaidAt (faults f temporal) (node f i range temporal) at (i + size f) out out′ r
+
+-- one check stored, where the formula at p, with which the check's own ends, is pure; else refusal n
+pub record CheckLaid (ops nums : List ℕ) (p n : ℕ) (out : List ℕ) (at : ℕ) (row : MonNode) (out′ : List ℕ) (r : Laid) : Type 0 where
+  pub is : (c : Check) → row ≡ nodeOf c → (g : Formula) → Spells (nodeAt ops nums) p g
+      → LaidAt (unless (pure g) n) (check c) at (p + size g) out out′ r
 
 -- ---- the whole call
 -- document 01's result of an answer: the count of nodes, or the refusal

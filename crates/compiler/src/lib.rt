@@ -1,5 +1,5 @@
 // The compiler: a rule's formula into monitor nodes (`compile_formula`).
-use formula::signal::pure_at;
+use formula::signal::boolean_over_atoms;
 use formula::table::Walk;
 use formula::table::is_roomy;
 use formula::table::is_rule;
@@ -8,6 +8,7 @@ use monitor::node::SignalExpr;
 use monitor::node::put_node;
 use monitor::range::AnchorRange;
 use terms::limit::NODE_CELLS;
+use terms::limit::ROW_CELLS;
 use terms::op::ALWAYS;
 use terms::op::ALWAYS_FOR;
 use terms::op::AND;
@@ -24,12 +25,13 @@ ghost use mathlib.Core.Bool.{true, false};
 ghost use Prim.Native.Nat.{_+_, _*_, _≤_, _<_, _^_};
 ghost use lib.ListN.{length, getD, take};
 ghost use lib.Seq.{sets};
-ghost use Rattle.terms.specs.Limits.{nodeCells};
-ghost use Rattle.formula.specs.Table.{IsRule};
+ghost use Rattle.terms.specs.Limits.{nodeCells, rowCells};
+ghost use Rattle.terms.specs.Ops.{notOp, nextOp, alwaysForOp, withinOp, andOp, impliesOp};
+ghost use Rattle.formula.specs.Table.{IsRule, Placed};
 ghost use Rattle.monitor.specs.Table.{NodeNumbered};
 ghost use Rattle.monitor.specs.Compile.{anchor};
 ghost use Rattle.monitor.specs.Mon.{nodeRow, joinNode};
-ghost use Rattle.compiler.specs.Compiled.{CompileReady, Implied, CompiledAt, Answers, ruleCall, compileCall, refusedAs};
+ghost use Rattle.compiler.specs.Compiled.{CompileReady, Implied, CheckLaid, CompiledAt, Answers, ruleCall, compileCall, refusedAs};
 
 // Where a walk's nodes and its formula end, or the refusal.
 pub enum Laid {
@@ -39,11 +41,30 @@ pub enum Laid {
 
 // Stores one check, of a formula that ends at e.
 fn lay(out: &mut [u64], at: usize, node: MonNode, e: usize) -> Laid
-    requires { ⌜ (7 * (at + 1) ≤ length (now out)) × NodeNumbered node ⌝ }
-    ensures { λ r. ⌜ (r ≡ Laid.Upto (at + 1) e) × (now (out .exit) ≡ sets (now (out .entry)) (7 * at) (nodeRow node)) ⌝ }
+    requires { ⌜ (rowCells * (at + 1) ≤ length (now out)) × NodeNumbered node ⌝ }
+    ensures { λ r. ⌜ (r ≡ Laid.Upto (at + 1) e) × (now (out .exit) ≡ sets (now (out .entry)) (rowCells * at) (nodeRow node)) ⌝ }
 {
     put_node(out, at, node);
     Laid::Upto(at + 1, e)
+}
+
+// Stores one check, if the formula at p, with which the check's own ends, is pure; else refuses.
+fn lay_if_pure(
+    ops: &[u8],
+    nums: &[u64],
+    p: usize,
+    refusal: u64,
+    out: &mut [u64],
+    at: usize,
+    node: MonNode,
+) -> Laid
+    requires { ⌜ Placed (now ops) (now nums) p × (rowCells * (at + 1) ≤ length (now out)) × NodeNumbered node ⌝ }
+    ensures { λ r. ⌜ CheckLaid (now (ops .entry)) (now (nums .entry)) p refusal (now (out .entry)) at node (now (out .exit)) r ⌝ }
+{
+    let Walk::Upto(e) = boolean_over_atoms(ops, nums, p) else {
+        return Laid::Refused(refusal);
+    };
+    lay(out, at, node, e)
 }
 
 // An atom: a check at its range.
@@ -56,7 +77,7 @@ fn compile_atom(
     out: &mut [u64],
     at: usize,
 ) -> Laid
-    requires { ⌜ CompileReady (now ops) (now nums) i range (now out) at × (getD (now ops) i 0 < 3) ⌝ }
+    requires { ⌜ CompileReady (now ops) (now nums) i range (now out) at × (getD (now ops) i 0 < notOp) ⌝ }
     ensures { λ r. ⌜ CompiledAt (now (ops .entry)) (now (nums .entry)) i range temporal (now (out .entry)) at (now (out .exit)) r ⌝ }
 {
     let node = MonNode::RangeCheck {
@@ -75,17 +96,14 @@ fn compile_not(
     out: &mut [u64],
     at: usize,
 ) -> Laid
-    requires { ⌜ CompileReady (now ops) (now nums) i range (now out) at × (getD (now ops) i 0 ≡ 3) ⌝ }
+    requires { ⌜ CompileReady (now ops) (now nums) i range (now out) at × (getD (now ops) i 0 ≡ notOp) ⌝ }
     ensures { λ r. ⌜ CompiledAt (now (ops .entry)) (now (nums .entry)) i range temporal (now (out .entry)) at (now (out .exit)) r ⌝ }
 {
-    let Walk::Upto(e) = pure_at(ops, nums, i + 1) else {
-        return Laid::Refused(18);
-    };
     let node = MonNode::RangeCheck {
         expr: SignalExpr::At(i),
         range,
     };
-    lay(out, at, node, e)
+    lay_if_pure(ops, nums, i + 1, 18, out, at, node)
 }
 
 fn compile_next(
@@ -97,17 +115,14 @@ fn compile_next(
     out: &mut [u64],
     at: usize,
 ) -> Laid
-    requires { ⌜ CompileReady (now ops) (now nums) i range (now out) at × (getD (now ops) i 0 ≡ 4) ⌝ }
+    requires { ⌜ CompileReady (now ops) (now nums) i range (now out) at × (getD (now ops) i 0 ≡ nextOp) ⌝ }
     ensures { λ r. ⌜ CompiledAt (now (ops .entry)) (now (nums .entry)) i range temporal (now (out .entry)) at (now (out .exit)) r ⌝ }
 {
-    let Walk::Upto(e) = pure_at(ops, nums, i + 1) else {
-        return Laid::Refused(17);
-    };
     let node = MonNode::RangeCheck {
         expr: SignalExpr::At(i + 1),
         range: range.shifted(),
     };
-    lay(out, at, node, e)
+    lay_if_pure(ops, nums, i + 1, 17, out, at, node)
 }
 
 // A `within` that is not under a temporal operator has range 0 to 0.
@@ -129,19 +144,16 @@ fn compile_within(
     out: &mut [u64],
     at: usize,
 ) -> Laid
-    requires { ⌜ CompileReady (now ops) (now nums) i range (now out) at × (getD (now ops) i 0 ≡ 8) ⌝ }
+    requires { ⌜ CompileReady (now ops) (now nums) i range (now out) at × (getD (now ops) i 0 ≡ withinOp) ⌝ }
     ensures { λ r. ⌜ CompiledAt (now (ops .entry)) (now (nums .entry)) i range temporal (now (out .entry)) at (now (out .exit)) r ⌝ }
 {
-    let Walk::Upto(e) = pure_at(ops, nums, i + 1) else {
-        return Laid::Refused(14);
-    };
     let node = MonNode::Obligation {
         bound: nums[i],
         trigger: SignalExpr::True,
         body: SignalExpr::At(i + 1),
         range: anchored(temporal, range),
     };
-    lay(out, at, node, e)
+    lay_if_pure(ops, nums, i + 1, 14, out, at, node)
 }
 
 // `l implies within b f`: the right part stands at j.
@@ -155,19 +167,16 @@ fn compile_owed(
     out: &mut [u64],
     at: usize,
 ) -> Laid
-    requires { ⌜ Implied (now ops) (now nums) i j range (now out) at × (getD (now ops) j 0 ≡ 8) ⌝ }
+    requires { ⌜ Implied (now ops) (now nums) i j range (now out) at × (getD (now ops) j 0 ≡ withinOp) ⌝ }
     ensures { λ r. ⌜ CompiledAt (now (ops .entry)) (now (nums .entry)) i range temporal (now (out .entry)) at (now (out .exit)) r ⌝ }
 {
-    let Walk::Upto(e) = pure_at(ops, nums, j + 1) else {
-        return Laid::Refused(14);
-    };
     let node = MonNode::Obligation {
         bound: nums[j],
         trigger: SignalExpr::At(i + 1),
         body: SignalExpr::At(j + 1),
         range: anchored(temporal, range),
     };
-    lay(out, at, node, e)
+    lay_if_pure(ops, nums, j + 1, 14, out, at, node)
 }
 
 // `l implies next f`.
@@ -181,18 +190,15 @@ fn compile_delayed(
     out: &mut [u64],
     at: usize,
 ) -> Laid
-    requires { ⌜ Implied (now ops) (now nums) i j range (now out) at × (getD (now ops) j 0 ≡ 4) ⌝ }
+    requires { ⌜ Implied (now ops) (now nums) i j range (now out) at × (getD (now ops) j 0 ≡ nextOp) ⌝ }
     ensures { λ r. ⌜ CompiledAt (now (ops .entry)) (now (nums .entry)) i range temporal (now (out .entry)) at (now (out .exit)) r ⌝ }
 {
-    let Walk::Upto(e) = pure_at(ops, nums, j + 1) else {
-        return Laid::Refused(15);
-    };
     let node = MonNode::DelayedCheck {
         antecedent: SignalExpr::At(i + 1),
         consequent: SignalExpr::At(j + 1),
         range: range.shifted(),
     };
-    lay(out, at, node, e)
+    lay_if_pure(ops, nums, j + 1, 15, out, at, node)
 }
 
 // A pure implication is itself the signal of its check.
@@ -206,17 +212,14 @@ fn compile_pure_implies(
     out: &mut [u64],
     at: usize,
 ) -> Laid
-    requires { ⌜ Implied (now ops) (now nums) i j range (now out) at × (getD (now ops) j 0 ≡ 8 → ⊥) × (getD (now ops) j 0 ≡ 4 → ⊥) ⌝ }
+    requires { ⌜ Implied (now ops) (now nums) i j range (now out) at × (getD (now ops) j 0 ≡ withinOp → ⊥) × (getD (now ops) j 0 ≡ nextOp → ⊥) ⌝ }
     ensures { λ r. ⌜ CompiledAt (now (ops .entry)) (now (nums .entry)) i range temporal (now (out .entry)) at (now (out .exit)) r ⌝ }
 {
-    let Walk::Upto(e) = pure_at(ops, nums, j) else {
-        return Laid::Refused(16);
-    };
     let node = MonNode::RangeCheck {
         expr: SignalExpr::At(i),
         range,
     };
-    lay(out, at, node, e)
+    lay_if_pure(ops, nums, j, 16, out, at, node)
 }
 
 fn compile_implies(
@@ -228,10 +231,10 @@ fn compile_implies(
     out: &mut [u64],
     at: usize,
 ) -> Laid
-    requires { ⌜ CompileReady (now ops) (now nums) i range (now out) at × (getD (now ops) i 0 ≡ 11) ⌝ }
+    requires { ⌜ CompileReady (now ops) (now nums) i range (now out) at × (getD (now ops) i 0 ≡ impliesOp) ⌝ }
     ensures { λ r. ⌜ CompiledAt (now (ops .entry)) (now (nums .entry)) i range temporal (now (out .entry)) at (now (out .exit)) r ⌝ }
 {
-    let Walk::Upto(j) = pure_at(ops, nums, i + 1) else {
+    let Walk::Upto(j) = boolean_over_atoms(ops, nums, i + 1) else {
         return Laid::Refused(13);
     };
     let op = ops[j];
@@ -244,7 +247,7 @@ fn compile_implies(
     compile_pure_implies(ops, nums, i, j, range, temporal, out, at)
 }
 
-// The node that joins two parts: 9 is and, 10 or.
+// The node that joins two parts.
 fn join_node(op: u8) -> MonNode
     ensures { λ r. ⌜ r ≡ joinNode op ⌝ }
 {
@@ -264,7 +267,7 @@ fn compile_pair(
     out: &mut [u64],
     at: usize,
 ) -> Laid
-    requires { ⌜ CompileReady (now ops) (now nums) i range (now out) at × (9 ≤ getD (now ops) i 0) × (getD (now ops) i 0 < 11) ⌝ }
+    requires { ⌜ CompileReady (now ops) (now nums) i range (now out) at × (andOp ≤ getD (now ops) i 0) × (getD (now ops) i 0 < impliesOp) ⌝ }
     ensures { λ r. ⌜ CompiledAt (now (ops .entry)) (now (nums .entry)) i range temporal (now (out .entry)) at (now (out .exit)) r ⌝ }
 {
     put_node(out, at, join_node(ops[i]));
@@ -285,7 +288,7 @@ fn compile_always_for(
     out: &mut [u64],
     at: usize,
 ) -> Laid
-    requires { ⌜ CompileReady (now ops) (now nums) i range (now out) at × (getD (now ops) i 0 ≡ 7) ⌝ }
+    requires { ⌜ CompileReady (now ops) (now nums) i range (now out) at × (getD (now ops) i 0 ≡ alwaysForOp) ⌝ }
     ensures { λ r. ⌜ CompiledAt (now (ops .entry)) (now (nums .entry)) i range temporal (now (out .entry)) at (now (out .exit)) r ⌝ }
 {
     if temporal {
@@ -352,7 +355,7 @@ fn compile_rule(ops: &[u8], nums: &[u64], first: usize, count: usize, out: &mut 
     let Laid::Upto(n, _) = laid else {
         return refused(laid);
     };
-    copy(&aside, out, 7 * n);
+    copy(&aside, out, ROW_CELLS * n);
     Compiled::Nodes(n)
 }
 

@@ -18,9 +18,10 @@ use Rattle.terms.specs.Choice.{pick}
 use Rattle.formula.specs.Tree.{Tree, leaf, one, two, leaf-of, size, depth}
 use Rattle.formula.specs.Spells.{Spells}
 use Rattle.formula.specs.Formula.{Formula, Unary, Binary, not, next, always, eventually, always-for, within, and, or, implies, until}
-use Rattle.formula.specs.Table.{Rule, ruleOf, roomy}
-use Rattle.formula.specs.Pure.{pure}
+use Rattle.formula.specs.Table.{Rule, keep, ruleOf, roomy}
+use Rattle.formula.specs.Pure.{pure, unless}
 use Rattle.formula.proofs.Cases.{below-or}
+use Rattle.formula.proofs.Faults.{cons-nil, append-nil-inv, unless-nil}
 use Rattle.formula.proofs.Trees.{some-inj, none-some, size-pos}
 use Rattle.formula.proofs.Rules.{rule-inv}
 use Rattle.formula.proofs.Walks.{both-true}
@@ -34,8 +35,8 @@ use Rattle.monitor.specs.declared.node.MonNode.the-variants.{RangeCheck, Delaye
 use Rattle.monitor.specs.declared.node.Row.the-variants.{Node}
 use Rattle.monitor.specs.Range.{allOf, uptoOf}
 use Rattle.monitor.specs.Mon.{Signal, always-true, at, Check, range-check, delayed-check, obligation, Mon, check, And, Or, count, exprNumber, hasLast, lastOf, exprOf, nodeRow, nodeOf, rows}
-use Rattle.monitor.specs.Table.{exprFrom, rangeFrom, formAt, rowOf, subAt, keepPure, keepSignal, signalOf, Never, Join, join-and, join-or, checked, cellOf, cellBy, cells, fromTree, compiledOf}
-use Rattle.monitor.specs.Compile.{when, unless, consequent, faults, implication, node, ruleFaults, ruleNode}
+use Rattle.monitor.specs.Table.{exprFrom, rangeFrom, formAt, rowOf, subAt, pureSignal, signalOf, Never, Join, join-and, join-or, checked, cellOf, cellBy, cells, fromTree, compiledOf}
+use Rattle.monitor.specs.Compile.{when, consequent, faults, implication, node, ruleFaults, ruleNode}
 use Rattle.monitor.proofs.Rows.{expr-zero, expr-some, row-range, row-delayed, row-owed, row-and, row-or}
 use Rattle.monitor.proofs.Parts.{no-part}
 use Rattle.monitor.proofs.Holds.{held}
@@ -143,22 +144,6 @@ part-part (two o l r) (suc k) g j h e q = ap (subAt (two o l r)) (suc-add k j) �
     ap (λ (b : Bool). pick b (subAt l (k + j)) (subAt r (k + j - size l))) (le-ltb (k + j) (size l) (omega arith)) ∙ ap (subAt r) z ∙ p)
     (below-or k (size l))
 
--- ---- refusals that do not apply
-no-left : (xs ys : List ℕ) → xs ++ ys ≡ [] → xs ≡ []
-no-left [] ys e = refl
-no-left (x ∷ xs) ys e = let z : _≡_ {A = ℕ} 0 1 = cc in absurd (omega arith)
-
-no-right : (xs ys : List ℕ) → xs ++ ys ≡ [] → ys ≡ []
-no-right [] ys e = e
-no-right (x ∷ xs) ys e = let z : _≡_ {A = ℕ} 0 1 = cc in absurd (omega arith)
-
-no-refusal : {B : Type 0} (x : ℕ) (xs : List ℕ) → x ∷ xs ≡ [] → B
-no-refusal x xs e = let z : _≡_ {A = ℕ} 0 1 = cc in absurd (omega arith)
-
-holds-unless : (b : Bool) (n : ℕ) → unless b n ≡ [] → b ≡ true
-holds-unless true n e = refl
-holds-unless false n e = no-refusal n [] e
-
 -- ---- signals
 module _ (f : Formula) (first : ℕ) where
   -- g is the part of f at place i
@@ -204,13 +189,13 @@ module _ (f : Formula) (first : ℕ) where
   SeenMon (And m n) = SeenMon m × SeenMon n
   SeenMon (Or m n) = SeenMon m × SeenMon n
 
-  keep-pure : (p : ℕ) (g : Formula) → pure g ≡ true → keepPure p (some g) ≡ some (at p g)
-  keep-pure p g h = rw h refl
+  pure-read : (p : ℕ) (g : Formula) → pure g ≡ true → pureSignal p (some g) ≡ some (at p g)
+  pure-read p g h = rw h refl
 
   signal-read : (s : Signal) → Seen s → signalOf f first (exprOf s) ≡ some s
   signal-read always-true h = refl
   signal-read (at p g) h =
-      ap₂ (λ (b : Bool) (o : Option Formula). keepSignal b (keepPure p o)) (le-leb first p (h .0 .from)) (h .0 .is) ∙ keep-pure p g (h .1)
+      ap₂ (λ (b : Bool) (o : Option Formula). keep b (pureSignal p o)) (le-leb first p (h .0 .from)) (h .0 .is) ∙ pure-read p g (h .1)
 
   check-read : (c : Check) → SeenCheck c → cellOf f first (Node (nodeOf c)) ≡ leaf-of c
   check-read (range-check s r) h = ap (checked (λ x. leaf-of (range-check x r))) (signal-read s h)
@@ -220,38 +205,38 @@ module _ (f : Formula) (first : ℕ) where
       ap₂ (λ (a c : Option Signal). checked (λ x. checked (λ y. leaf-of (obligation b x y r)) c) a) (signal-read s (h .0)) (signal-read t (h .1))
 
   both-pure : (l c : Formula) → pure l ≡ true → unless (pure c) 16 ≡ [] → (pure l && pure c) ≡ true
-  both-pure l c p q = ap₂ _&&_ p (holds-unless (pure c) 16 q)
+  both-pure l c p q = ap₂ _&&_ p (unless-nil (pure c) 16 q)
 
   implies-seen : (l c : Formula) (i : ℕ) (r : AnchorRange) (t : Bool) → Here i (two implies l c) → pure l ≡ true → consequent c ≡ [] → SeenCheck (implication l c i (i + 1 + size l) r t)
   unfolding implication consequent pure
   implies-seen l (leaf a) i r t p q e = (p, both-pure l (leaf a) q e)
   implies-seen l (one not x) i r t p q e = (p, both-pure l (one not x) q e)
   implies-seen l (one next x) i r t p q e =
-      ((here-left i implies l (one next x) p, q), (here-one (i + 1 + size l) next x (here-right i implies l (one next x) p), holds-unless (pure x) 15 e))
+      ((here-left i implies l (one next x) p, q), (here-one (i + 1 + size l) next x (here-right i implies l (one next x) p), unless-nil (pure x) 15 e))
   implies-seen l (one always x) i r t p q e = (p, both-pure l (one always x) q e)
   implies-seen l (one eventually x) i r t p q e = (p, both-pure l (one eventually x) q e)
   implies-seen l (one (always-for b) x) i r t p q e = (p, both-pure l (one (always-for b) x) q e)
   implies-seen l (one (within b) x) i r t p q e =
-      ((here-left i implies l (one (within b) x) p, q), (here-one (i + 1 + size l) (within b) x (here-right i implies l (one (within b) x) p), holds-unless (pure x) 14 e))
+      ((here-left i implies l (one (within b) x) p, q), (here-one (i + 1 + size l) (within b) x (here-right i implies l (one (within b) x) p), unless-nil (pure x) 14 e))
   implies-seen l (two o m n) i r t p q e = (p, both-pure l (two o m n) q e)
 
   node-seen : (g : Formula) (i : ℕ) (r : AnchorRange) (t : Bool) → Here i g → faults g t ≡ [] → SeenMon (node g i r t)
   unfolding node faults SeenMon pure
   node-seen (leaf a) i r t p e = (p, refl)
-  node-seen (one not g) i r t p e = (p, holds-unless (pure g) 18 e)
-  node-seen (one next g) i r t p e = (here-one i next g p, holds-unless (pure g) 17 e)
+  node-seen (one not g) i r t p e = (p, unless-nil (pure g) 18 e)
+  node-seen (one next g) i r t p e = (here-one i next g p, unless-nil (pure g) 17 e)
   node-seen (one always g) i r t p e = node-seen g (i + 1) r true (here-one i always g p) e
-  node-seen (one eventually g) i r t p e = no-refusal 19 [] e
+  node-seen (one eventually g) i r t p e = cons-nil e
   node-seen (one (always-for b) g) i r t p e =
-      node-seen g (i + 1) (uptoOf (b - 1)) true (here-one i (always-for b) g p) (no-right (when (eqb b 0) 12) (faults g true) (no-right (when t 11) _ e))
-  node-seen (one (within b) g) i r t p e = (omega arith, (here-one i (within b) g p, holds-unless (pure g) 14 e))
+      node-seen g (i + 1) (uptoOf (b - 1)) true (here-one i (always-for b) g p) (append-nil-inv (when (eqb b 0) 12) (faults g true) (append-nil-inv (when t 11) _ e .1) .1)
+  node-seen (one (within b) g) i r t p e = (omega arith, (here-one i (within b) g p, unless-nil (pure g) 14 e))
   node-seen (two and l c) i r t p e =
-      (node-seen l (i + 1) r t (here-left i and l c p) (no-left (faults l t) (faults c t) e), node-seen c (i + 1 + size l) r t (here-right i and l c p) (no-right (faults l t) (faults c t) e))
+      (node-seen l (i + 1) r t (here-left i and l c p) (append-nil-inv (faults l t) (faults c t) e .0), node-seen c (i + 1 + size l) r t (here-right i and l c p) (append-nil-inv (faults l t) (faults c t) e .1))
   node-seen (two or l c) i r t p e =
-      (node-seen l (i + 1) r t (here-left i or l c p) (no-left (faults l t) (faults c t) e), node-seen c (i + 1 + size l) r t (here-right i or l c p) (no-right (faults l t) (faults c t) e))
+      (node-seen l (i + 1) r t (here-left i or l c p) (append-nil-inv (faults l t) (faults c t) e .0), node-seen c (i + 1 + size l) r t (here-right i or l c p) (append-nil-inv (faults l t) (faults c t) e .1))
   node-seen (two implies l c) i r t p e =
-      implies-seen l c i r t p (holds-unless (pure l) 13 (no-left (unless (pure l) 13) (consequent c) e)) (no-right (unless (pure l) 13) (consequent c) e)
-  node-seen (two until l c) i r t p e = no-refusal 19 [] e
+      implies-seen l c i r t p (unless-nil (pure l) 13 (append-nil-inv (unless (pure l) 13) (consequent c) e .0)) (append-nil-inv (unless (pure l) 13) (consequent c) e .1)
+  node-seen (two until l c) i r t p e = cons-nil e
 
 -- ---- the tree of the cells
 unfoldable toTree : Mon → Tree Check Never Join
@@ -318,7 +303,9 @@ module _ (ops nums : List ℕ) (first count′ : ℕ) (nodes : List ℕ) (f : Fo
       )
 
 -- ---- the whole rule
-pub reads-stored : (ops nums : List ℕ) (first count′ : ℕ) (f : Formula) (nodes : List ℕ) (i : ℕ) → ruleOf ops nums first count′ ≡ some f → ruleFaults f ≡ [] → 7 * (i + count (ruleNode f first)) ≤ length nodes → Stored nodes (7 * i) (rows (ruleNode f first)) → compiledOf ops nums first count′ nodes i (count (ruleNode f first)) ≡ some (ruleNode f first)
+pub reads-stored : (ops nums : List ℕ) (first count′ : ℕ) (f : Formula) (nodes : List ℕ) (i : ℕ) → ruleOf ops nums first count′ ≡ some f → ruleFaults f ≡ []
+    → 7 * (i + count (ruleNode f first)) ≤ length nodes → Stored nodes (7 * i) (rows (ruleNode f first))
+    → compiledOf ops nums first count′ nodes i (count (ruleNode f first)) ≡ some (ruleNode f first)
 reads-stored ops nums first count′ f nodes i e w h s =
     let u : Rule ops nums first count′ f = rule-inv ops nums first count′ f e in
     let few : count (ruleNode f first) ≤ 256 = omega (arith, count-size f first allOf false, u .covers, u .few) in
@@ -335,7 +322,8 @@ reads-stored ops nums first count′ f nodes i e w h s =
     })
     ∙ ap some (from-to (ruleNode f first))
 
-pub reads-back : (ops nums : List ℕ) (first count′ : ℕ) (f : Formula) (out : List ℕ) → ruleOf ops nums first count′ ≡ some f → ruleFaults f ≡ [] → 1792 ≤ length out → compiledOf ops nums first count′ (sets out 0 (rows (ruleNode f first))) 0 (count (ruleNode f first)) ≡ some (ruleNode f first)
+pub reads-back : (ops nums : List ℕ) (first count′ : ℕ) (f : Formula) (out : List ℕ) → ruleOf ops nums first count′ ≡ some f → ruleFaults f ≡ [] → 1792 ≤ length out
+    → compiledOf ops nums first count′ (sets out 0 (rows (ruleNode f first))) 0 (count (ruleNode f first)) ≡ some (ruleNode f first)
 reads-back ops nums first count′ f out e w h =
     let u : Rule ops nums first count′ f = rule-inv ops nums first count′ f e in
     let m = ruleNode f first in
@@ -356,11 +344,13 @@ nodes-inj e = cc
 pub not-nodes : {B : Type 0} (k n : ℕ) → refused k ≡ given n → B
 not-nodes k n e = let z : _≡_ {A = ℕ} 0 1 = cc in absurd (omega arith)
 
-pub compiled-reads : (ops nums : List ℕ) (first count′ : ℕ) (out : List ℕ) (n : ℕ) → compileCall ops nums first count′ out .answer ≡ given n → ReadsRule ops nums first count′ (compileCall ops nums first count′ out .out) n
+pub compiled-reads : (ops nums : List ℕ) (first count′ : ℕ) (out : List ℕ) (n : ℕ) → compileCall ops nums first count′ out .answer ≡ given n
+    → ReadsRule ops nums first count′ (compileCall ops nums first count′ out .out) n
 unfolding compileCall
 compiled-reads ops nums first count′ out n = short (roomy ops nums && leb 1792 (length out)) refl
   where
-    walked : (f : Formula) → ruleOf ops nums first count′ ≡ some f → 1792 ≤ length out → (fs : List ℕ) → ruleFaults f ≡ fs → firstOr fs (ruleNode f first) out .answer ≡ given n → ReadsRule ops nums first count′ (firstOr fs (ruleNode f first) out .out) n
+    walked : (f : Formula) → ruleOf ops nums first count′ ≡ some f → 1792 ≤ length out → (fs : List ℕ) → ruleFaults f ≡ fs → firstOr fs (ruleNode f first) out .answer ≡ given n
+        → ReadsRule ops nums first count′ (firstOr fs (ruleNode f first) out .out) n
     walked f e h [] w q =
         let c : n ≡ count (ruleNode f first) = sym (nodes-inj q) in
         record {
@@ -372,10 +362,12 @@ compiled-reads ops nums first count′ out n = short (roomy ops nums && leb 1792
         }
     walked f e h (k ∷ ks) w q = not-nodes k n q
 
-    ruled : (o : Option Formula) → ruleOf ops nums first count′ ≡ o → 1792 ≤ length out → compileFormula o first out .answer ≡ given n → ReadsRule ops nums first count′ (compileFormula o first out .out) n
+    ruled : (o : Option Formula) → ruleOf ops nums first count′ ≡ o → 1792 ≤ length out → compileFormula o first out .answer ≡ given n
+        → ReadsRule ops nums first count′ (compileFormula o first out .out) n
     ruled none e h q = not-nodes 2 n q
     ruled (some f) e h q = walked f e h (ruleFaults f) refl q
 
-    short : (b : Bool) → (roomy ops nums && leb 1792 (length out)) ≡ b → orShort b out (compileFormula (ruleOf ops nums first count′) first out) .answer ≡ given n → ReadsRule ops nums first count′ (orShort b out (compileFormula (ruleOf ops nums first count′) first out) .out) n
+    short : (b : Bool) → (roomy ops nums && leb 1792 (length out)) ≡ b → orShort b out (compileFormula (ruleOf ops nums first count′) first out) .answer ≡ given n
+        → ReadsRule ops nums first count′ (orShort b out (compileFormula (ruleOf ops nums first count′) first out) .out) n
     short true w q = ruled (ruleOf ops nums first count′) refl (leb-true 1792 (length out) (both-true (roomy ops nums) _ w .1)) q
     short false w q = not-nodes 1 n q

@@ -32,7 +32,8 @@ module _ {L O T : Type 0} where
   spells-one tok i o (one p t) e s = let h : _≡_ {A = Token L O T} (one-of p) (one-of o) = sym (s .0) ∙ e in (t, cc, s .1)
   spells-one tok i o (two p l r) e s = one-two (sym e ∙ s .0)
 
-  pub spells-two : (tok : ℕ → Token L O T) (i : ℕ) (o : T) (t : Tree L O T) → tok i ≡ two-of o → Spells tok i t → (l : Tree L O T) × (r : Tree L O T) × (t ≡ two o l r) × Spells tok (i + 1) l × Spells tok (i + 1 + size l) r
+  pub spells-two : (tok : ℕ → Token L O T) (i : ℕ) (o : T) (t : Tree L O T) → tok i ≡ two-of o → Spells tok i t
+      → (l : Tree L O T) × (r : Tree L O T) × (t ≡ two o l r) × Spells tok (i + 1) l × Spells tok (i + 1 + size l) r
   unfolding Spells
   spells-two tok i o (leaf b) e s = leaf-two (sym s ∙ e)
   spells-two tok i o (one p t) e s = one-two (sym (s .0) ∙ e)
@@ -43,6 +44,19 @@ module _ {L O T : Type 0} where
   spells-unknown tok i (leaf b) e s = let h : _≡_ {A = Token L O T} (leaf-of b) unknown = sym s ∙ e in let z : _≡_ {A = ℕ} 0 1 = cc in omega arith
   spells-unknown tok i (one p t) e s = let h : _≡_ {A = Token L O T} (one-of p) unknown = sym (s .0) ∙ e in let z : _≡_ {A = ℕ} 0 1 = cc in omega arith
   spells-unknown tok i (two p l r) e s = let h : _≡_ {A = Token L O T} (two-of p) unknown = sym (s .0) ∙ e in let z : _≡_ {A = ℕ} 0 1 = cc in omega arith
+
+  -- every place of a tree holds a known token
+  pub known-at : (tok : ℕ → Token L O T) (i : ℕ) (t : Tree L O T) (k : ℕ) → Spells tok i t → k < size t → tok (i + k) ≡ unknown → ⊥
+  unfolding Spells size
+  known-at tok i (leaf a) zero s h e = spells-unknown tok i (leaf a) (subst (λ (n : ℕ). tok n ≡ unknown) (omega arith) e) s
+  known-at tok i (leaf a) (suc k) s h e = omega arith
+  known-at tok i (one o t) zero s h e = spells-unknown tok i (one o t) (subst (λ (n : ℕ). tok n ≡ unknown) (omega arith) e) s
+  known-at tok i (one o t) (suc k) s h e = known-at tok (i + 1) t k (s .1) (omega arith) (subst (λ (n : ℕ). tok n ≡ unknown) (omega arith) e)
+  known-at tok i (two o l r) zero s h e = spells-unknown tok i (two o l r) (subst (λ (n : ℕ). tok n ≡ unknown) (omega arith) e) s
+  known-at tok i (two o l r) (suc k) s h e = ⊎-elim
+      (λ q. known-at tok (i + 1) l k (s .1) q (subst (λ (n : ℕ). tok n ≡ unknown) (omega arith) e))
+      (λ q. known-at tok (i + 1 + size l) r (k - size l) (s .2) (omega arith) (subst (λ (n : ℕ). tok n ≡ unknown) (omega arith) e))
+      (below-or k (size l))
 
 -- ---- an operation's number
 pub node-leaf : (op n : ℕ) → op < 3 → (a : Atom) × (node op n ≡ leaf-of a) × (signal a ≡ n)
@@ -116,24 +130,18 @@ number-of (suc (suc (suc (suc (suc (suc (suc (suc (suc (suc (suc zero)))))))))))
 number-of (suc (suc (suc (suc (suc (suc (suc (suc (suc (suc (suc (suc zero)))))))))))) n h = refl
 number-of (suc (suc (suc (suc (suc (suc (suc (suc (suc (suc (suc (suc (suc k))))))))))))) n h = absurd (omega arith)
 
--- a word with one operand or two has its own number
-pub unary-number : (op n : ℕ) (o : Unary) → node op n ≡ one-of o → op ≡ numberOf (one-of o)
-unary-number op n o e = ⊎-elim
+-- what is no unknown token stands for its own number
+known-number : (op n : ℕ) (t : Node) → (t ≡ unknown → ⊥) → node op n ≡ t → op ≡ numberOf t
+known-number op n t k e = ⊎-elim
     (λ h. sym (number-of op n h) ∙ ap numberOf e)
-    (λ h. let z : _≡_ {A = Node} unknown (one-of o) = sym (node-unknown op n h) ∙ e in let z′ : _≡_ {A = ℕ} 0 1 = cc in absurd (omega arith))
-    (below-or op 13)
-
-pub binary-number : (op n : ℕ) (o : Binary) → node op n ≡ two-of o → op ≡ numberOf (two-of o)
-binary-number op n o e = ⊎-elim
-    (λ h. sym (number-of op n h) ∙ ap numberOf e)
-    (λ h. let z : _≡_ {A = Node} unknown (two-of o) = sym (node-unknown op n h) ∙ e in let z′ : _≡_ {A = ℕ} 0 1 = cc in absurd (omega arith))
+    (λ h. absurd (k (sym e ∙ node-unknown op n h)))
     (below-or op 13)
 
 pub atom-number : (op n : ℕ) (a : Atom) → node op n ≡ leaf-of a → op ≡ numberOf (leaf-of a)
-atom-number op n a e =
-    ⊎-elim
-    (λ h. sym (number-of op n h) ∙ ap numberOf e)
-    (λ h.
-    let z : _≡_ {A = Node} unknown (leaf-of a) = sym (node-unknown op n h) ∙ e in
-    let z′ : _≡_ {A = ℕ} 0 1 = cc in absurd (omega arith))
-    (below-or op 13)
+atom-number op n a e = known-number op n (leaf-of a) (λ z. let y : _≡_ {A = ℕ} 0 1 = cc in omega arith) e
+
+pub unary-number : (op n : ℕ) (o : Unary) → node op n ≡ one-of o → op ≡ numberOf (one-of o)
+unary-number op n o e = known-number op n (one-of o) (λ z. let y : _≡_ {A = ℕ} 0 1 = cc in omega arith) e
+
+pub binary-number : (op n : ℕ) (o : Binary) → node op n ≡ two-of o → op ≡ numberOf (two-of o)
+binary-number op n o e = known-number op n (two-of o) (λ z. let y : _≡_ {A = ℕ} 0 1 = cc in omega arith) e

@@ -22,14 +22,16 @@ module _ (ops nums : List ℕ) (i : ℕ) where
       let (a, e, n) = node-leaf (getD ops i 0) (getD nums i 0) h in
       (a, spells-leaf (nodeAt ops nums) i a f e s, n)
 
-  pub one-there : (f : Formula) → Spells (nodeAt ops nums) i f → 3 ≤ getD ops i 0 → getD ops i 0 < 9 → (o : Unary) × (g : Formula) × (nodeAt ops nums i ≡ one-of o) × (f ≡ one o g) × Spells (nodeAt ops nums) (i + 1) g
+  pub one-there : (f : Formula) → Spells (nodeAt ops nums) i f → 3 ≤ getD ops i 0 → getD ops i 0 < 9
+      → (o : Unary) × (g : Formula) × (nodeAt ops nums i ≡ one-of o) × (f ≡ one o g) × Spells (nodeAt ops nums) (i + 1) g
   unfolding nodeAt
   one-there f s h k =
       let (o, e) = node-one (getD ops i 0) (getD nums i 0) h k in
       let (g, p, u) = spells-one (nodeAt ops nums) i o f e s in
       (o, g, e, p, u)
 
-  pub two-there : (f : Formula) → Spells (nodeAt ops nums) i f → 9 ≤ getD ops i 0 → (o : Binary) × (l : Formula) × (r : Formula) × (nodeAt ops nums i ≡ two-of o) × (f ≡ two o l r) × Spells (nodeAt ops nums) (i + 1) l × Spells (nodeAt ops nums) (i + 1 + size l) r
+  pub two-there : (f : Formula) → Spells (nodeAt ops nums) i f → 9 ≤ getD ops i 0
+      → (o : Binary) × (l : Formula) × (r : Formula) × (nodeAt ops nums i ≡ two-of o) × (f ≡ two o l r) × Spells (nodeAt ops nums) (i + 1) l × Spells (nodeAt ops nums) (i + 1 + size l) r
   unfolding nodeAt
   two-there f s h = ⊎-elim
       (λ k. let (o, e) = node-two (getD ops i 0) (getD nums i 0) h k in

@@ -18,6 +18,11 @@ use Rattle.formula.specs.declared.table.Walk.the-variants.{Upto, Stuck}
 use Rattle.formula.proofs.Trees.{some-inj, none-some, tree-spells, spells-tree, spells-unique}
 use Rattle.formula.proofs.Walks.{both-true}
 
+-- what a filter lets through
+pub keep-inv : {A : Type 0} (b : Bool) (o : Option A) (a : A) → keep b o ≡ some a → (b ≡ true) × (o ≡ some a)
+keep-inv true o a e = (refl, e)
+keep-inv false o a e = none-some e
+
 module _ (ops nums : List ℕ) (first count : ℕ) where
   pub rule-of : (f : Formula) → Rule ops nums first count f → ruleOf ops nums first count ≡ some f
   unfolding ruleOf
@@ -25,10 +30,6 @@ module _ (ops nums : List ℕ) (first count : ℕ) where
       rw (le-leb count 256 (u .few), le-leb (first + count) 1024 (u .in-table), le-leb (first + count) (length ops) (u .in-ops), le-leb (first + count) (length nums) (u .in-nums))
       (ap limited (ap (λ (n : ℕ). treeOf (run (nodeAt ops nums) first n)) (sym (u .covers)) ∙ spells-tree (nodeAt ops nums) first f (u .spells))
       ∙ ap (λ (b : Bool). keep b (some f)) (ap₂ _&&_ (le-leb (depth f) 64 (u .shallow)) (u .in-word)))
-
-  keep-inv : (b : Bool) (o : Option Formula) (f : Formula) → keep b o ≡ some f → (b ≡ true) × (o ≡ some f)
-  keep-inv true o f e = (refl, e)
-  keep-inv false o f e = none-some e
 
   limited-inv : (o : Option Formula) (f : Formula) → limited o ≡ some f → (o ≡ some f) × (depth f ≤ 64) × (all inWord f ≡ true)
   limited-inv none f e = none-some e
@@ -80,7 +81,8 @@ module _ (ops nums : List ℕ) (first count : ℕ) where
       let m : t ≡ f = spells-unique (nodeAt ops nums) first t f (s .spells) (u .spells) in
       n (omega (arith, ap (λ (x : Formula). size x) m))
 
-  pub whole : (r : Walk) (e : ℕ) → Walked (nodeAt ops nums) inWord first (first + count) 64 r → r ≡ Upto e → e ≡ first + count → count ≤ 256 → first ≤ 1024 - count → first + count ≤ length ops → first + count ≤ length nums → true ≡ isSome (ruleOf ops nums first count)
+  pub whole : (r : Walk) (e : ℕ) → Walked (nodeAt ops nums) inWord first (first + count) 64 r → r ≡ Upto e → e ≡ first + count → count ≤ 256 → first ≤ 1024 - count
+      → first + count ≤ length ops → first + count ≤ length nums → true ≡ isSome (ruleOf ops nums first count)
   whole r e w q n a g b c =
       let (t, s) = w .found e q in
       let u : Rule ops nums first count t = record { few = a; in-table = omega arith; in-ops = b; in-nums = c; spells = s .spells; covers = omega arith; shallow = s .shallow; in-word = s .good } in

@@ -71,7 +71,8 @@ module _ {L O T : Type 0} where
   prefixes [] = []
   prefixes (t ∷ ts) = prefix t ++ prefixes ts
 
-  push-inv : (t : Token L O T) (ts : List (Token L O T)) (m : Option (List (Tree L O T))) (us : List (Tree L O T)) → ((vs : List (Tree L O T)) → m ≡ some vs → ts ≡ prefixes vs) → push t m ≡ some us → t ∷ ts ≡ prefixes us
+  push-inv : (t : Token L O T) (ts : List (Token L O T)) (m : Option (List (Tree L O T))) (us : List (Tree L O T)) → ((vs : List (Tree L O T)) → m ≡ some vs → ts ≡ prefixes vs)
+      → push t m ≡ some us → t ∷ ts ≡ prefixes us
   unfolding push prefix prefixes
   push-inv t ts none us h e = none-some e
   push-inv (leaf-of a) ts (some vs) us h e = ap (leaf-of a ∷_) (h vs refl) ∙ ap prefixes (some-inj e)

@@ -152,7 +152,8 @@ module _ (ops nums : List ℕ) (i end room : ℕ) where
         let (o, e) = node-two (getD ops i 0) (getD nums i 0) g h in
         walk-left (nodeAt ops nums) inWord i end room left below deep o e q
 
-    pub at-two : (e : ℕ) (right : Walk) → 9 ≤ getD ops i 0 → getD ops i 0 < 13 → left ≡ Upto e → Walked (nodeAt ops nums) inWord e end (room - 1) right → Walked (nodeAt ops nums) inWord i end room right
+    pub at-two : (e : ℕ) (right : Walk) → 9 ≤ getD ops i 0 → getD ops i 0 < 13 → left ≡ Upto e → Walked (nodeAt ops nums) inWord e end (room - 1) right
+        → Walked (nodeAt ops nums) inWord i end room right
     unfolding nodeAt
     at-two e right g h q w =
         let (o, p) = node-two (getD ops i 0) (getD nums i 0) g h in

@@ -1,9 +1,11 @@
 -- Document 01, "Nodes and alarms": a formula of atoms, not, and, or, implies only is pure; a pure formula is a signal.
 use mathlib.Core.Bool.{Bool, true, false, _&&_, _||_}
 use mathlib.Core.Bool as bool
+use mathlib.Core.List.{List, [], _∷_}
 use Prim.Native.Nat.{ℕ, _/_, _%_, _^_}
 use lib.Dec.{eqb, ltb}
 use Rattle.terms.specs.Choice.{pick}
+use Rattle.terms.specs.Ops.{orOp, impliesOp}
 use Rattle.formula.specs.Tree.{leaf, one, two}
 use Rattle.formula.specs.Formula.{Formula, signal, not, next, always, eventually, always-for, within, and, or, implies, until}
 
@@ -19,6 +21,11 @@ pure (two and l r) = pure l && pure r
 pure (two or l r) = pure l && pure r
 pure (two implies l r) = pure l && pure r
 pure (two until l r) = false
+
+-- refusal n, unless the test holds: a walk's answer where an operand has to be pure
+abbrev pub unless : Bool → ℕ → List ℕ
+unless true n = []
+unless false n = n ∷ []
 
 -- bit n of a word of truths, bit 0 lowest
 abbrev pub bit : ℕ → ℕ → Bool
@@ -38,6 +45,6 @@ value (two or l r) w = value l w || value r w
 value (two implies l r) w = bool.not (value l w) || value r w
 value (two until l r) w = false
 
--- two values joined by a word's number: up to 9 it is and, 10 or, past that implies
+-- two values joined by a word's number: below or's it is and, below implies' or, from there on implies
 abbrev pub joined : ℕ → Bool → Bool → Bool
-joined op l r = pick (ltb op 10) (l && r) (pick (ltb op 11) (l || r) (bool.not l || r))
+joined op l r = pick (ltb op orOp) (l && r) (pick (ltb op impliesOp) (l || r) (bool.not l || r))

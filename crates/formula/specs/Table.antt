@@ -10,6 +10,7 @@ use mathlib.Core.Option.{Option, none, some}
 use Prim.Native.Nat.{ℕ, _+_, _≤_}
 use lib.Dec.{leb}
 use lib.ListN.{length, getD}
+use Rattle.terms.specs.Choice.{pick}
 use Rattle.terms.specs.Limits.{bookNodes, deepest, ruleNodes}
 use Rattle.formula.specs.Tree.{treeOf, size, depth, all}
 use Rattle.formula.specs.Spells.{run, Spells}
@@ -22,9 +23,9 @@ nodeAt ops nums i = node (getD ops i 0) (getD nums i 0)
 abbrev pub inWord : Atom → Bool
 inWord a = leb (signal a) 63
 
-abbrev pub keep : Bool → Option Formula → Option Formula
-keep true o = o
-keep false o = none
+-- what passes a test; what does not is nothing
+abbrev pub keep {ℓ} : {A : Type ℓ} → Bool → Option A → Option A
+keep b o = pick b o none
 
 -- within the limits of one formula
 abbrev pub limited : Option Formula → Option Formula

@@ -1,13 +1,10 @@
 -- Document 01, "The listing": a formula's prefix text, as a list of signs. A sign is an atom, or a byte that stands for a word.
---     signs        the text of a signal, in which implies is `|!`
---     operand      the text of an operand, in which implies is `>`
---     alikeText    two texts agree, with v, i and o taken as one letter
-use mathlib.Core.Bool.{Bool, true, false, _&&_}
+--     signs      the text of a signal, in which implies is `|!`
+--     operand    the text of an operand, in which implies is `>`
 use mathlib.Core.List.{List, [], _∷_, _++_}
 use Prim.Native.Nat.{ℕ}
-use lib.Dec.{eqb}
 use Rattle.formula.specs.Tree.{leaf, one, two}
-use Rattle.formula.specs.Formula.{Atom, Formula, signal, not, next, always, eventually, always-for, within, and, or, implies, until}
+use Rattle.formula.specs.Formula.{Atom, Formula, not, next, always, eventually, always-for, within, and, or, implies, until}
 
 pub data Sign : Type 0 where
   atom : Atom → Sign
@@ -32,22 +29,3 @@ signs f = signsBy (sign 124 ∷ sign 33 ∷ []) f
 
 abbrev pub operand : Formula → List Sign
 operand f = signsBy (sign 62 ∷ []) f
-
--- ---- likeness rests on this predicate for two atoms
-abbrev pub alikeAtoms : Atom → Atom → Bool
-alikeAtoms a b = eqb (signal a) (signal b)
-
-abbrev pub alikeSigns : Sign → Sign → Bool
-alikeSigns (atom a) (atom b) = alikeAtoms a b
-alikeSigns (atom a) (sign n) = false
-alikeSigns (sign m) (atom b) = false
-alikeSigns (sign m) (sign n) = eqb m n
-
-unfoldable pub agree : List Sign → List Sign → Bool
-agree [] [] = true
-agree [] (y ∷ ys) = false
-agree (x ∷ xs) [] = false
-agree (x ∷ xs) (y ∷ ys) = alikeSigns x y && agree xs ys
-
-abbrev pub alikeText : Formula → Formula → Bool
-alikeText f g = agree (signs f) (signs g)

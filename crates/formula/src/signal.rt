@@ -5,42 +5,45 @@ use terms::op::IMPLIES;
 use terms::op::NEXT;
 use terms::op::NOT;
 use terms::op::OR;
+use terms::op::UNTIL;
 ghost use mathlib.Core.Path.{_≡_};
 ghost use mathlib.Core.Bool.{_&&_, _||_};
 ghost use Prim.Native.Nat.{_≤_, _<_};
 ghost use lib.ListN.{getD};
+ghost use Rattle.terms.specs.Ops.{notOp};
+ghost use Rattle.terms.specs.Limits.{signals};
 ghost use Rattle.formula.specs.Table.{Placed};
 ghost use Rattle.formula.specs.Pure.{bit, joined};
 ghost use Rattle.formula.specs.Signal.{Purely, Signalled, Valued};
 
-// Where the formula at i ends, if it is pure.
-pub fn pure_at(ops: &[u8], nums: &[u64], i: usize) -> Walk
+// Where the formula at i ends, if it is pure: of atoms, not, and, or, implies only.
+pub fn boolean_over_atoms(ops: &[u8], nums: &[u64], i: usize) -> Walk
     requires { ⌜ Placed (now ops) (now nums) i ⌝ }
     ensures { λ r. ⌜ Purely (now (ops .entry)) (now (nums .entry)) i r ⌝ }
 {
     let op = ops[i];
-    if 12 <= op {
+    if UNTIL <= op {
         return Walk::Stuck;
     }
     if op < NOT {
         return Walk::Upto(i + 1);
     }
     if op < NEXT {
-        return pure_at(ops, nums, i + 1);
+        return boolean_over_atoms(ops, nums, i + 1);
     }
     if op < AND {
         return Walk::Stuck;
     }
-    let left = pure_at(ops, nums, i + 1);
+    let left = boolean_over_atoms(ops, nums, i + 1);
     let Walk::Upto(e) = left else {
         return left;
     };
-    pure_at(ops, nums, e)
+    boolean_over_atoms(ops, nums, e)
 }
 
 // Bit n of a word of truths.
 fn truth(word: u64, n: u64) -> bool
-    requires { ⌜ n < 64 ⌝ }
+    requires { ⌜ n < signals ⌝ }
     ensures { λ r. ⌜ r ≡ bit n word ⌝ }
 {
     (word >> n) % 2 == 1
@@ -52,7 +55,7 @@ pub struct Value {
     pub end: usize,
 }
 
-// The value of a pure word with two operands: 9 is and, 10 or, 11 implies.
+// The value of a pure word with two operands.
 fn join(op: u8, left: bool, right: bool) -> bool
     ensures { λ r. ⌜ r ≡ joined op left right ⌝ }
 {
@@ -79,7 +82,7 @@ pub fn value_at(ops: &[u8], nums: &[u64], i: usize, word: u64) -> Value
     requires { ⌜ Signalled (now ops) (now nums) i ⌝ }
     ensures { λ v. ⌜ Valued (now (ops .entry)) (now (nums .entry)) i word v ⌝ }
 {
-    if ops[i] < 3 {
+    if ops[i] < NOT {
         return Value {
             value: truth(word, nums[i]),
             end: i + 1,
@@ -90,7 +93,7 @@ pub fn value_at(ops: &[u8], nums: &[u64], i: usize, word: u64) -> Value
 
 // A call of its own, so that no slice is copied where an atom is read.
 fn apart_at(ops: &[u8], nums: &[u64], i: usize, word: u64) -> Value
-    requires { ⌜ Signalled (now ops) (now nums) i × (3 ≤ getD (now ops) i 0) ⌝ }
+    requires { ⌜ Signalled (now ops) (now nums) i × (notOp ≤ getD (now ops) i 0) ⌝ }
     ensures { λ v. ⌜ Valued (now (ops .entry)) (now (nums .entry)) i word v ⌝ }
 {
     node_at(ops, nums, i, word)
@@ -98,7 +101,7 @@ fn apart_at(ops: &[u8], nums: &[u64], i: usize, word: u64) -> Value
 
 // The value of a pure formula that has operands.
 fn node_at(ops: &[u8], nums: &[u64], i: usize, word: u64) -> Value
-    requires { ⌜ Signalled (now ops) (now nums) i × (3 ≤ getD (now ops) i 0) ⌝ }
+    requires { ⌜ Signalled (now ops) (now nums) i × (notOp ≤ getD (now ops) i 0) ⌝ }
     ensures { λ v. ⌜ Valued (now (ops .entry)) (now (nums .entry)) i word v ⌝ }
 {
     let op = ops[i];

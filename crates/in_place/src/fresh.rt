@@ -1,12 +1,13 @@
 // A fresh monitor of a compiled rule: by value, and in place.
-use crate::Monitor;
+use crate::ReferenceMonitor;
 use stepping::fresh::Outcome;
 ghost use mathlib.Core.Path.{_≡_};
-ghost use Rattle.in_place.specs.InPlace.{overLists, sizeAfter, freshIn};
+ghost use Rattle.lent.specs.Lent.{tables};
+ghost use Rattle.in_place.specs.InPlace.{sizeAfter, freshIn};
 
 // The answer to making a monitor, and the monitor afterwards.
 pub struct Started {
-    pub monitor: Monitor,
+    pub monitor: ReferenceMonitor,
     pub outcome: Outcome,
 }
 
@@ -21,7 +22,7 @@ fn size_after(outcome: Outcome, size: usize) -> usize
 
 // Makes the monitor of the compiled rule that the tables hold.
 pub fn made(
-    m: Monitor,
+    m: ReferenceMonitor,
     ops: &[u8],
     nums: &[u64],
     first: usize,
@@ -30,7 +31,7 @@ pub fn made(
     nfirst: usize,
     ncount: usize,
 ) -> Started
-    ensures { λ r. ⌜ r ≡ freshIn (overLists (now (ops .entry)) (now (nums .entry)) first count (now (nodes .entry)) nfirst ncount) m ⌝ }
+    ensures { λ r. ⌜ r ≡ freshIn (tables (now (ops .entry)) (now (nums .entry)) first count (now (nodes .entry)) nfirst ncount) m ⌝ }
 {
     let mut forms = m.forms;
     let mut bounds = m.bounds;
@@ -54,7 +55,7 @@ pub fn made(
         &mut culprits,
     );
     let size = size_after(outcome, m.size);
-    let monitor = Monitor {
+    let monitor = ReferenceMonitor {
         size,
         forms,
         bounds,
@@ -68,7 +69,7 @@ pub fn made(
 
 // The same on a lent monitor, which it changes.
 pub fn fresh(
-    m: &mut Monitor,
+    m: &mut ReferenceMonitor,
     ops: &[u8],
     nums: &[u64],
     first: usize,
@@ -78,8 +79,8 @@ pub fn fresh(
     ncount: usize,
 ) -> Outcome
     ensures { λ r. ⌜
-        (r ≡ freshIn (overLists (now (ops .entry)) (now (nums .entry)) first count (now (nodes .entry)) nfirst ncount) (now (m .entry)) .outcome)
-        × (now (m .exit) ≡ freshIn (overLists (now (ops .entry)) (now (nums .entry)) first count (now (nodes .entry)) nfirst ncount) (now (m .entry)) .monitor)
+        (r ≡ freshIn (tables (now (ops .entry)) (now (nums .entry)) first count (now (nodes .entry)) nfirst ncount) (now (m .entry)) .outcome)
+        × (now (m .exit) ≡ freshIn (tables (now (ops .entry)) (now (nums .entry)) first count (now (nodes .entry)) nfirst ncount) (now (m .entry)) .monitor)
         ⌝ }
 {
     let out = made(*m, ops, nums, first, count, nodes, nfirst, ncount);

@@ -4,8 +4,8 @@ pub mod step;
 
 use terms::limit::RULE_NODES;
 
-// The count of its nodes, and for each node its form, its bound and its state (crates/stepping, `NodeState`).
-pub struct Monitor {
+// The count of its nodes, and for each node its form, its bound and its state (crates/node_step, `MonState`).
+pub struct ReferenceMonitor {
     pub size: usize,
     pub forms: [u64; RULE_NODES],
     pub bounds: [u64; RULE_NODES],

@@ -1,18 +1,19 @@
 // A step call on a monitor: by value, and in place.
-use crate::Monitor;
+use crate::ReferenceMonitor;
 use stepping::call::Verdict;
 ghost use mathlib.Core.Path.{_≡_};
-ghost use Rattle.in_place.specs.InPlace.{overLists, stepIn};
+ghost use Rattle.lent.specs.Lent.{tables};
+ghost use Rattle.in_place.specs.InPlace.{stepIn};
 
 // The answer to a step call, and the monitor afterwards.
 pub struct Advanced {
-    pub monitor: Monitor,
+    pub monitor: ReferenceMonitor,
     pub verdict: Verdict,
 }
 
 // Steps a monitor once, at step s with truths w, over the tables that hold its rule.
 pub fn stepped(
-    m: Monitor,
+    m: ReferenceMonitor,
     ops: &[u8],
     nums: &[u64],
     first: usize,
@@ -23,7 +24,7 @@ pub fn stepped(
     s: u64,
     w: u64,
 ) -> Advanced
-    ensures { λ r. ⌜ r ≡ stepIn (overLists (now (ops .entry)) (now (nums .entry)) first count (now (nodes .entry)) nfirst ncount) m s w ⌝ }
+    ensures { λ r. ⌜ r ≡ stepIn (tables (now (ops .entry)) (now (nums .entry)) first count (now (nodes .entry)) nfirst ncount) m s w ⌝ }
 {
     let size = m.size;
     let forms = m.forms;
@@ -50,7 +51,7 @@ pub fn stepped(
         s,
         w,
     );
-    let monitor = Monitor {
+    let monitor = ReferenceMonitor {
         size,
         forms,
         bounds,
@@ -64,7 +65,7 @@ pub fn stepped(
 
 // The same on a lent monitor, which it changes.
 pub fn step(
-    m: &mut Monitor,
+    m: &mut ReferenceMonitor,
     ops: &[u8],
     nums: &[u64],
     first: usize,
@@ -76,9 +77,8 @@ pub fn step(
     w: u64,
 ) -> Verdict
     ensures { λ r. ⌜
-        (r ≡ stepIn (overLists (now (ops .entry)) (now (nums .entry)) first count (now (nodes .entry)) nfirst ncount) (now (m .entry)) s w .verdict)
-        × (now (m .exit)
-        ≡ stepIn (overLists (now (ops .entry)) (now (nums .entry)) first count (now (nodes .entry)) nfirst ncount) (now (m .entry)) s w .monitor)
+        (r ≡ stepIn (tables (now (ops .entry)) (now (nums .entry)) first count (now (nodes .entry)) nfirst ncount) (now (m .entry)) s w .verdict)
+        × (now (m .exit) ≡ stepIn (tables (now (ops .entry)) (now (nums .entry)) first count (now (nodes .entry)) nfirst ncount) (now (m .entry)) s w .monitor)
         ⌝ }
 {
     let out = stepped(*m, ops, nums, first, count, nodes, nfirst, ncount, s, w);

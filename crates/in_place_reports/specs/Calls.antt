@@ -21,14 +21,14 @@ use Rattle.stepping.specs.Walk.{readMon}
 use Rattle.stepping.specs.Call.{resultOf}
 use Rattle.stepping.specs.Fresh as fresh
 use Rattle.reports.specs.Calls.{callsBy, stepReport, compiledTables}
-use Rattle.in_place.specs.declared.Monitor.{Monitor}
+use Rattle.in_place.specs.declared.ReferenceMonitor.{ReferenceMonitor}
 use Rattle.in_place.specs.InPlace.{memoryOf, stepIn, freshIn}
 use Rattle.node_table.specs.declared.FormulaNode.{FormulaNode}
 use Rattle.node_table.specs.Node.{opsOf, numsOf}
-use Rattle.table_step.specs.Over.{over}
+use Rattle.table_step.specs.Over.{tablesOver}
 
 -- the struct reads as a state of m
-abbrev pub ReadsAs : (m : Mon) → Monitor → State m → Type 0
+abbrev pub ReadsAs : (m : Mon) → ReferenceMonitor → State m → Type 0
 ReadsAs m k st = readMon m (memoryOf k) 0 ≡ st
 
 -- ---- over plain tables
@@ -38,7 +38,7 @@ pub record StepCall : Type 0 where
   pub at : ℕ
   pub truths : ℕ
 
-abbrev pub inPlace : Machine Monitor StepCall
+abbrev pub inPlace : Machine ReferenceMonitor StepCall
 inPlace = record {
   asks = λ e. accepted (e .at) (e .truths) ∷ [];
   Own = λ e m. ruleMon (e .tables) ≡ some m;
@@ -52,7 +52,7 @@ abbrev pub DemandInPlace : Type 0
 DemandInPlace =
     (ops nums : List ℕ) (first count : ℕ) (f : Formula) → ruleOf ops nums first count ≡ some f →
     (out : List ℕ) (n : ℕ) → compileCall ops nums first count out .answer ≡ given n →
-    (k : Monitor) → fresh.resultOf (freshIn (compiledTables ops nums first count out n) k .outcome) ≡ given n →
+    (k : ReferenceMonitor) → fresh.resultOf (freshIn (compiledTables ops nums first count out n) k .outcome) ≡ given n →
     Demand inPlace f (ruleNode f first) (ReadsAs (ruleNode f first)) (freshIn (compiledTables ops nums first count out n) k .monitor)
 
 -- ---- over node structs
@@ -69,9 +69,9 @@ pub record TableCall : Type 0 where
 
 -- the same call over plain tables
 abbrev pub plainCall : TableCall → StepCall
-plainCall e = record { tables = over (e .table) (e .first) (e .count) (e .nodes) (e .nfirst) (e .ncount); at = e .at; truths = e .truths }
+plainCall e = record { tables = tablesOver (e .table) (e .first) (e .count) (e .nodes) (e .nfirst) (e .ncount); at = e .at; truths = e .truths }
 
-abbrev pub onTables : Machine Monitor TableCall
+abbrev pub onTables : Machine ReferenceMonitor TableCall
 onTables = record {
   asks = λ e. inPlace .asks (plainCall e);
   Own = λ e m. inPlace .Own (plainCall e) m;
@@ -85,6 +85,6 @@ abbrev pub DemandOnTables : Type 0
 DemandOnTables =
     (table : List FormulaNode) (first count : ℕ) (f : Formula) → ruleOf (opsOf table) (numsOf table) first count ≡ some f →
     (out : List ℕ) (n : ℕ) → compileCall (opsOf table) (numsOf table) first count out .answer ≡ given n →
-    (k : Monitor) → fresh.resultOf (freshIn (over table first count (compileCall (opsOf table) (numsOf table) first count out .out) 0 n) k .outcome) ≡ given n →
+    (k : ReferenceMonitor) → fresh.resultOf (freshIn (tablesOver table first count (compileCall (opsOf table) (numsOf table) first count out .out) 0 n) k .outcome) ≡ given n →
     Demand onTables f (ruleNode f first) (ReadsAs (ruleNode f first))
-    (freshIn (over table first count (compileCall (opsOf table) (numsOf table) first count out .out) 0 n) k .monitor)
+    (freshIn (tablesOver table first count (compileCall (opsOf table) (numsOf table) first count out .out) 0 n) k .monitor)

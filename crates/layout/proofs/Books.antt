@@ -201,10 +201,10 @@ module _ (n : ℕ) (property compiled : ℕ → Bool) (f g : ℕ → ℕ) (h : (
   same-bits : (old : List ℕ) → filledIn compiled f old n ≡ filledIn compiled g old n
   same-bits old = ap (sets old 0) (same-listed f g old n (λ r l. pick-same (compiled r) (f r) (g r) (getD old r 0) (λ e. h r l e)))
 
-  same-firsts : (old : List ℕ) → filledIn compiled (firstBit n property compiled f) old n ≡ filledIn compiled (firstBit n property compiled g) old n
+  same-firsts : (old : List ℕ) → filledIn compiled (firstBit 0 n property compiled f) old n ≡ filledIn compiled (firstBit 0 n property compiled g) old n
   same-firsts old = ap (sets old 0)
-      (same-listed (firstBit n property compiled f) (firstBit n property compiled g) old n
-      (λ r l. pick-same (compiled r) _ _ (getD old r 0) (λ e. same-first n property property compiled compiled f g (λ k j. refl) (λ k j. refl) h r l)))
+      (same-listed (firstBit 0 n property compiled f) (firstBit 0 n property compiled g) old n
+      (λ r l. pick-same (compiled r) _ _ (getD old r 0) (λ e. same-first n property property compiled compiled f g (λ k j. refl) (λ k j. refl) h 0 r l)))
 
 -- ---- the call
 module _ (ops nums firsts counts nodes nfirsts ncounts kinds refusals : List ℕ) (n : ℕ) (starts bits′ : List ℕ) where
@@ -214,7 +214,9 @@ module _ (ops nums firsts counts nodes nfirsts ncounts kinds refusals : List ℕ
       (pick s (laidOut kinds refusals (monAt ops nums firsts counts nodes nfirsts ncounts) n starts bits′) (outcome (refused 2) starts bits′))
       (outcome (refused 1) starts bits′)
 
-  layout-is : {w v t u s : Bool} → roomyNodes ops nums nodes ≡ w → roomyRules kinds refusals firsts counts nfirsts ncounts ≡ v → leb 64 (length starts) ≡ t → leb 64 (length bits′) ≡ u → sound (ruleAt ops nums firsts counts) refusals (monAt ops nums firsts counts nodes nfirsts ncounts) n ≡ s → layoutOf ops nums firsts counts nodes nfirsts ncounts kinds refusals n starts bits′ ≡ answer w v t u s
+  layout-is : {w v t u s : Bool} → roomyNodes ops nums nodes ≡ w → roomyRules kinds refusals firsts counts nfirsts ncounts ≡ v → leb 64 (length starts) ≡ t
+      → leb 64 (length bits′) ≡ u → sound (ruleAt ops nums firsts counts) refusals (monAt ops nums firsts counts nodes nfirsts ncounts) n ≡ s
+      → layoutOf ops nums firsts counts nodes nfirsts ncounts kinds refusals n starts bits′ ≡ answer w v t u s
   unfolding layoutOf answer
   layout-is a b c d e = λ i. answer (a i) (b i) (c i) (d i) (e i)
 
@@ -287,7 +289,8 @@ module _ (ops nums firsts counts nodes nfirsts ncounts kinds refusals : List ℕ
                       let (x, p) = some-mon _ _ refl (is-fine r j c) in
                       table-bits ops nums (getD firsts r 0) (getD counts r 0) nodes (getD nfirsts r 0) (getD ncounts r 0) x p ∙ sym (ap bitsIn p)
 
-                  pub layout-done : (starts″ bits″ : List ℕ) → Arranged n (isZero kinds) (isZero refusals) (partBits nodes nfirsts ncounts) starts starts″ bits′ bits″ → outcome (given tt) starts″ bits″ ≡ layoutOf ops nums firsts counts nodes nfirsts ncounts kinds refusals n starts bits′
+                  pub layout-done : (starts″ bits″ : List ℕ) → Arranged 0 n (isZero kinds) (isZero refusals) (partBits nodes nfirsts ncounts) starts starts″ bits′ bits″
+                      → outcome (given tt) starts″ bits″ ≡ layoutOf ops nums firsts counts nodes nfirsts ncounts kinds refusals n starts bits′
                   unfolding answer
                   layout-done starts″ bits″ a =
                       ap₂ (outcome (given tt))

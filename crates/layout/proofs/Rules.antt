@@ -65,7 +65,8 @@ module _ (ops nums : List ℕ) (first count : ℕ) (nodes : List ℕ) (nfirst nc
             let (m, p) = some-mon q _ z y in
             ap given (s .is ∙ table-bits ops nums first count nodes nfirst ncount m p) ∙ sym (ap₂ (λ (b : Bool) (o : Option Mon). orElse b 1 (bitsBy o)) (sym e ∙ h) p)
 
-        slot-by : (j : ℕ) (m : Mon) → compiledOf ops nums first count nodes nfirst ncount ≡ some m → nodeSlotOf ops nums first count nodes nfirst ncount j ≡ orElse (ltb j ncount) 2 (given (slotIn (rowPieces nodes nfirst ncount) j))
+        slot-by : (j : ℕ) (m : Mon) → compiledOf ops nums first count nodes nfirst ncount ≡ some m
+            → nodeSlotOf ops nums first count nodes nfirst ncount j ≡ orElse (ltb j ncount) 2 (given (slotIn (rowPieces nodes nfirst ncount) j))
         unfolding nodeSlotOf
         slot-by j m p =
             let (f, u) = over-formula ops nums first count nodes nfirst ncount m p in

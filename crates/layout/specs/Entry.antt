@@ -107,7 +107,7 @@ sound rule refusals mon n = leb n bookRules && allBelow (fineOf rule refusals mo
 abbrev pub laidOut : List ℕ → List ℕ → (ℕ → Option Mon) → ℕ → List ℕ → List ℕ → Outcome
 laidOut kinds refusals mon n starts bits =
     outcome (given tt)
-    (filledIn (isZero refusals) (firstBit n (isZero kinds) (isZero refusals) (λ r. bitsIn (mon r))) starts n)
+    (filledIn (isZero refusals) (firstBit 0 n (isZero kinds) (isZero refusals) (λ r. bitsIn (mon r))) starts n)
     (filledIn (isZero refusals) (λ r. bitsIn (mon r)) bits n)
 
 unfoldable pub layoutOf : List ℕ → List ℕ → List ℕ → List ℕ → List ℕ → List ℕ → List ℕ → List ℕ → List ℕ → ℕ → List ℕ → List ℕ

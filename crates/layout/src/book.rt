@@ -130,7 +130,7 @@ fn all_fine(
     true
 }
 
-// First bits and bits of n rules: properties first, then assumptions, each in book order.
+// First bits and bits of n rules: properties first, then assumptions, each in book order, from bit 0.
 pub fn layout(
     ops: &[u8],
     nums: &[u64],
@@ -178,6 +178,6 @@ pub fn layout(
     ) {
         return BookLayout::Refused(2);
     }
-    plan::layout::arrange(kinds, refusals, nodes, nfirsts, ncounts, n, starts, bits);
+    plan::layout::arrange(kinds, refusals, nodes, nfirsts, ncounts, n, 0, starts, bits);
     BookLayout::Done
 }

@@ -26,8 +26,8 @@ pub fn is_wide(ops: &[u8], nums: &[u64], nodes: &[u64]) -> bool
     formula::table::is_roomy(ops, nums)
 }
 
-// The bits of the compiled rule at nfirst.
-pub fn rule_layout(
+// The bits of the compiled rule at nfirst; `node_slot` has those of each node.
+pub fn layout_for(
     ops: &[u8],
     nums: &[u64],
     first: usize,

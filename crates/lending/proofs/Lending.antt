@@ -14,16 +14,16 @@ use denote.Memory.{cellAt, mem, partOf}
 use denote.Steps.{owned, peeks}
 use denote.Struct.Laws as LL
 use denote.Struct.Steps.{spelt}
-use Rattle.in_place.specs.declared.Monitor.{Monitor}
-use Rattle.in_place.proofs.Monitor as T
-use Rattle.in_place.proofs.Monitor.Laws as T′
+use Rattle.in_place.specs.declared.ReferenceMonitor.{ReferenceMonitor}
+use Rattle.in_place.proofs.ReferenceMonitor as T
+use Rattle.in_place.proofs.ReferenceMonitor.Laws as T′
 
 -- a monitor's machine value
-abbrev pub mach : Monitor → Val
+abbrev pub mach : ReferenceMonitor → Val
 mach h = LL.val T.the-type T′.the-laws h
 
 module _ {M : Type 1} (𝓤 : URA M) (H : Heap 𝓤) (A : Atoms 𝓤) (W : Given 𝓤 H A) where
-  pub lies-in : (h : Monitor) (b o : ℕ) → Is T.the-row h (mach h ∷ []) → ent 𝓤 (H .at fullShare T′.mir b o (mach h)) (sem 𝓤 H A (mem T.the-row .lies h b o))
+  pub lies-in : (h : ReferenceMonitor) (b o : ℕ) → Is T.the-row h (mach h ∷ []) → ent 𝓤 (H .at fullShare T′.mir b o (mach h)) (sem 𝓤 H A (mem T.the-row .lies h b o))
   unfolding partOf
   lies-in h b o g =
       qed W (‵ (fat fullShare T′.mir b o (mach h)) ∷ []) ∵
@@ -31,7 +31,7 @@ module _ {M : Type 1} (𝓤 : URA M) (H : Heap 𝓤) (A : Atoms 𝓤) (W : Given
       owned ! T.the-row (Is T.the-row) (LL.makes T.the-type T′.the-plain 𝓤 H A) h _ g $ move ! (1 ∷ 0 ∷ []) $ fjoin ! $
       fpack ! (List Val) (λ us. fsep (cellAt fullShare (T.the-row .mir) us b o) (T.the-row .own h us)) (LL.vals T.the-type T′.the-laws h) $ done !
 
-  pub lies-out : (h : Monitor) (b o : ℕ) → ent 𝓤 (sem 𝓤 H A (mem T.the-row .lies h b o)) (guard 𝓤 (Is T.the-row h (mach h ∷ [])) (H .at fullShare T′.mir b o (mach h)))
+  pub lies-out : (h : ReferenceMonitor) (b o : ℕ) → ent 𝓤 (sem 𝓤 H A (mem T.the-row .lies h b o)) (guard 𝓤 (Is T.the-row h (mach h ∷ [])) (H .at fullShare T′.mir b o (mach h)))
   unfolding partOf
   lies-out h b o =
       qed W (‵ (mem T.the-row .lies h b o) ∷ []) ∵ fpick ! (λ vs. fsplit ! $

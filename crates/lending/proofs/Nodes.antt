@@ -75,5 +75,6 @@ module _ {M : Type 1} (𝓤 : URA M) (H : Heap 𝓤) (A : Atoms 𝓤) (W : Given
       move ! (1 ∷ []) $ drop ! $ use1 W (‵ (fat fullShare (tyArray N′.mir 1024) b 0 (nodes-val t))) (W .laws .raw-at fullShare (tyArray N′.mir 1024) b 0 (nodes-val t)) $ done !)
 
 -- a large literal as an operand
-pub big : {M : Type 1} {𝓤 : URA M} {H : Heap 𝓤} {A : Atoms 𝓤} {K : Type 0} {W : Given 𝓤 H A} {Γ : List (Item 𝓤)} {E : Env 𝓤 H} → K → {w : Width} {n : ℕ} → Fits w n → Opd K W Γ E (intBig w n) (vint w n)
+pub big : {M : Type 1} {𝓤 : URA M} {H : Heap 𝓤} {A : Atoms 𝓤} {K : Type 0} {W : Given 𝓤 H A} {Γ : List (Item 𝓤)} {E : Env 𝓤 H} → K → {w : Width} {n : ℕ}
+    → Fits w n → Opd K W Γ E (intBig w n) (vint w n)
 big {𝓤 = 𝓤} t {w} {n} f = record { go = λ Kt h. via 𝓤 (Kt (vint w n)) h (guardI 𝓤 (Fits w n) (Kt (vint w n)) f) }

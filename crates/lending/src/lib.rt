@@ -1,7 +1,7 @@
 // The calls over a lent table of node structs and a lent monitor, for callers that hold both by value: each copies them to locals, lends the locals
 // for one call, and hands the monitor back. The borrow checker covers such callers, and none that lends a struct itself.
 use compiler::Compiled;
-use in_place::Monitor;
+use in_place::ReferenceMonitor;
 use in_place::fresh::Started;
 use in_place::step::Advanced;
 use node_table::FormulaNode;
@@ -16,11 +16,11 @@ ghost use Rattle.compiler.specs.Compiled.{Answers, compileCall};
 ghost use Rattle.in_place.specs.InPlace.{freshIn, stepIn};
 ghost use Rattle.node_table.specs.Node.{opsOf, numsOf};
 ghost use Rattle.split.specs.Held.{outcome, splitting};
-ghost use Rattle.table_step.specs.Over.{over};
+ghost use Rattle.table_step.specs.Over.{tablesOver};
 
 // Steps a monitor once in place, over a table of node structs.
 pub fn step_over(
-    mut m: Monitor,
+    mut m: ReferenceMonitor,
     table: [FormulaNode; BOOK_NODES],
     first: usize,
     count: usize,
@@ -30,7 +30,7 @@ pub fn step_over(
     s: u64,
     w: u64,
 ) -> Advanced
-    ensures { λ r. ⌜ r ≡ stepIn (over table first count (now (nodes .entry)) nfirst ncount) m s w ⌝ }
+    ensures { λ r. ⌜ r ≡ stepIn (tablesOver table first count (now (nodes .entry)) nfirst ncount) m s w ⌝ }
 {
     let verdict = step_table(&mut m, &table, first, count, nodes, nfirst, ncount, s, w);
     Advanced {
@@ -41,7 +41,7 @@ pub fn step_over(
 
 // Makes the monitor of a compiled rule in place, over a table of node structs.
 pub fn fresh_over(
-    mut m: Monitor,
+    mut m: ReferenceMonitor,
     table: [FormulaNode; BOOK_NODES],
     first: usize,
     count: usize,
@@ -49,7 +49,7 @@ pub fn fresh_over(
     nfirst: usize,
     ncount: usize,
 ) -> Started
-    ensures { λ r. ⌜ r ≡ freshIn (over table first count (now (nodes .entry)) nfirst ncount) m ⌝ }
+    ensures { λ r. ⌜ r ≡ freshIn (tablesOver table first count (now (nodes .entry)) nfirst ncount) m ⌝ }
 {
     let outcome = fresh_table(&mut m, &table, first, count, nodes, nfirst, ncount);
     Started {

@@ -3,3 +3,4 @@ pub mod Tests
 pub mod Shaping
 pub mod Rooms
 pub mod Standings
+pub mod Refusals

@@ -28,65 +28,24 @@ use Rattle.monitor.specs.declared.node.MonNode.the-variants.{RangeCheck, Delaye
 use Rattle.monitor.specs.declared.node.Row.{Row}
 use Rattle.monitor.specs.declared.node.Row.the-variants.{Node, Unknown}
 use Rattle.monitor.specs.Mon.{Signal, at, Check, range-check, delayed-check, obligation, Mon, check, And, Or, count, exprOf, nodeOf}
-use Rattle.monitor.specs.Table.{rowOf, subAt, keepPure, keepSignal, signalOf, Never, Join, join-and, join-or, Cell, checked, cellOf, cellBy, cells, fromTree, compiledOf}
-use Rattle.monitor.proofs.Parts.{part-at, no-part}
+use Rattle.monitor.specs.Table.{rowOf, signalOf, Never, Join, join-and, join-or, Cell, checked, cellOf, cellBy, cells, fromTree, compiledOf}
+use Rattle.monitor.proofs.Signals.{signal-inv}
 use Rattle.monitor.proofs.Holds.{held-inv}
 use Rattle.node_step.specs.Check.{Standing, Grounded, GroundedCheck}
 use Rattle.node_step.specs.Memory.{Memory, get, Inside}
 use Rattle.node_step.proofs.Entries.{inside-less}
 use Rattle.lent.specs.Nodes.{NodesAt}
 use Rattle.lent.specs.Shape.{entryFits, fitsMon, rowFits, shapedFrom}
-use Rattle.lent.specs.Lent.{LentTables, LentMonitor, tableRoom, monitorRoom, isLent, ruleMon, fits, rowsFit, HoldsRule, Ready, Comparable, Known}
+use Rattle.lent.specs.Lent.{LentTables, LentMonitor, tableRoom, monitorRoom, isLent, ruleMon, fits, rowsFit, HoldsRule, Ready, Spanned}
 
 -- ---- signals
-part-ok : (ok : Atom → Bool) (f : Formula) (k : ℕ) (g : Formula) → subAt f k ≡ some g → all ok f ≡ true → all ok g ≡ true
-unfolding subAt all
-part-ok ok (leaf a) zero g e h = subst (λ (x : Formula). all ok x ≡ true) (some-inj e) h
-part-ok ok (leaf a) (suc k) g e h = none-some e
-part-ok ok (one o f) zero g e h = subst (λ (x : Formula). all ok x ≡ true) (some-inj e) h
-part-ok ok (one o f) (suc k) g e h = part-ok ok f k g e h
-part-ok ok (two o l r) zero g e h = subst (λ (x : Formula). all ok x ≡ true) (some-inj e) h
-part-ok ok (two o l r) (suc k) g e h = ⊎-elim
-    (λ q. part-ok ok l k g (sym (ap (λ (b : Bool). pick b (subAt l k) (subAt r (k - size l))) (lt-ltb k (size l) q)) ∙ e) (both-true (all ok l) (all ok r) h .0))
-    (λ q. part-ok ok r (k - size l) g (sym (ap (λ (b : Bool). pick b (subAt l k) (subAt r (k - size l))) (le-ltb k (size l) q)) ∙ e) (both-true (all ok l) (all ok r) h .1))
-    (below-or k (size l))
-
 module _ (ops nums : List ℕ) (first count′ : ℕ) (f : Formula) (u : Rule ops nums first count′ f) where
-  part-stands : (p : ℕ) (g : Formula) → first ≤ p → subAt f (p - first) ≡ some g → pure g ≡ true → Standing ops nums p g
-  part-stands p g h e q = ⊎-elim
-      (λ k.
-      let w = part-at (nodeAt ops nums) first f (p - first) (u .spells) k in
-      let same : w .part ≡ g = some-inj (sym (w .is) ∙ e) in
-      let at-p : Spells (nodeAt ops nums) p (w .part) = subst (λ (n : ℕ). Spells (nodeAt ops nums) n (w .part)) (omega arith) (w .spells) in
-      let z : size (w .part) ≡ size g = ap (λ (x : Formula). size x) same in
-      record {
-        spells = subst (Spells (nodeAt ops nums) p) same at-p;
-        in-ops = omega (arith, u .in-ops, u .covers, w .inside);
-        in-nums = omega (arith, u .in-nums, u .covers, w .inside);
-        is-pure = q;
-        in-word = part-ok inWord f (p - first) g e (u .in-word);
-      })
-      (λ k. none-some (sym (no-part f (p - first) k) ∙ e))
-      (below-or (p - first) (size f))
-
-  pure-inv : (p : ℕ) (o : Option Formula) (x : Signal) → keepPure p o ≡ some x → (g : Formula) × (o ≡ some g) × (pure g ≡ true) × (x ≡ at p g)
-  pure-inv p none x e = none-some e
-  pure-inv p (some g) x e = go (pure g) refl
-    where
-      go : (b : Bool) → pure g ≡ b → (h : Formula) × (some g ≡ some h) × (pure h ≡ true) × (x ≡ at p h)
-      go true q = (g, refl, q, sym (some-inj (sym (rw q refl) ∙ e)))
-      go false q = none-some (sym (rw q refl) ∙ e)
-
-  keep-inv : (b : Bool) (o : Option Signal) (x : Signal) → keepSignal b o ≡ some x → (b ≡ true) × (o ≡ some x)
-  keep-inv true o x e = (refl, e)
-  keep-inv false o x e = none-some e
-
   signal-stands : (e : SignalExpr) (x : Signal) → signalOf f first e ≡ some x → (exprOf x ≡ e) × Grounded ops nums x
   signal-stands True x q = subst (λ (y : Signal). (exprOf y ≡ True) × Grounded ops nums y) (some-inj q) (refl, tt)
   signal-stands (At p) x q =
-      let (b, r) = keep-inv (leb first p) (keepPure p (subAt f (p - first))) x q in
-      let (g, s, v, w) = pure-inv p (subAt f (p - first)) x r in
-      subst (λ (y : Signal). (exprOf y ≡ At p) × Grounded ops nums y) (sym w) (refl, part-stands p g (leb-true first p b) s v)
+      let (g, w, s) = signal-inv ops nums first count′ f u p x q in
+      let stands : Standing ops nums p g = record { spells = s .spells; in-ops = s .in-ops; in-nums = s .in-nums; is-pure = s .is-pure; in-word = s .in-word } in
+      subst (λ (y : Signal). (exprOf y ≡ At p) × Grounded ops nums y) (sym w) (refl, stands)
 
   -- ---- rows
   checked-inv : (k : Signal → Cell) (o : Option Signal) (y : Cell) → ((y ≡ unknown) → ⊥) → checked k o ≡ y → (x : Signal) × (o ≡ some x) × (k x ≡ y)
@@ -186,7 +145,8 @@ pub record Stood (ops nums nodes : List ℕ) (nfirst ncount : ℕ) (m : Mon) : T
   pub few : ncount ≤ 256
   pub in-nodes : 7 * (nfirst + ncount) ≤ length nodes
 
-pub stood : (ops nums : List ℕ) (first count′ : ℕ) (nodes : List ℕ) (nfirst ncount : ℕ) (m : Mon) → compiledOf ops nums first count′ nodes nfirst ncount ≡ some m → Stood ops nums nodes nfirst ncount m
+pub stood : (ops nums : List ℕ) (first count′ : ℕ) (nodes : List ℕ) (nfirst ncount : ℕ) (m : Mon)
+    → compiledOf ops nums first count′ nodes nfirst ncount ≡ some m → Stood ops nums nodes nfirst ncount m
 stood ops nums first count′ nodes nfirst ncount m e =
     let (f, t, h, q) = held-inv ops nums first count′ nodes nfirst ncount m e in
     record {
@@ -291,19 +251,17 @@ module _ (t : LentTables) (k : LentMonitor) (m : Mon) (e : ruleMon t ≡ some m)
       let o = rule-stood t m e in
       inside-less (k .memory) (0 + count m) 256 (omega (arith, o .counted, o .few)) (monitor-room (k .forms) (k .bounds) (k .memory) h .inside)
 
-module _ (t : LentTables) (k : LentMonitor) (d : Known t k) where
-  pub known-comparable : Comparable (t .nodes) (t .nfirst) (k .forms) (k .bounds) (k .memory) (t .ncount)
-  known-comparable =
-      let o = rule-stood t (d .mon) (d .is) in
-      let r = monitor-room (k .forms) (k .bounds) (k .memory) (lent-parts t k (d .lent) .1) in
-      record { rows = o .in-nodes; forms-in = omega (arith, o .few, r .forms-in); bounds-in = omega (arith, o .few, r .bounds-in); inside = inside-less (k .memory) (t .ncount) 256 (o .few) (r .inside) }
-
-  -- a monitor that is lent and fits
-  pub known-ready : fits (d .mon) k ≡ true → Ready k (d .mon)
-  known-ready h = record { fit = h; room = lent-parts t k (d .lent) .1 }
-
-  pub known-holds : HoldsRule t (d .mon)
-  known-holds = record { rule = d .is; room = lent-parts t k (d .lent) .0 }
+  -- the rows and the entries that the test compares
+  pub rule-spanned : monitorRoom (k .forms) (k .bounds) (k .memory) ≡ true → Spanned (t .nodes) (t .nfirst) (k .forms) (k .bounds) (k .memory) (t .ncount)
+  rule-spanned h =
+      let o = rule-stood t m e in
+      let r = monitor-room (k .forms) (k .bounds) (k .memory) h in
+      record {
+        rows = o .in-nodes;
+        forms-in = omega (arith, o .few, r .forms-in);
+        bounds-in = omega (arith, o .few, r .bounds-in);
+        inside = inside-less (k .memory) (t .ncount) 256 (o .few) (r .inside);
+      }
 
 pub lent-both : (t : LentTables) (k : LentMonitor) (m : Mon) → HoldsRule t m → Ready k m → isLent t k ≡ true
 lent-both t k m a b = ap₂ _&&_ (a .room) (b .room)

@@ -18,7 +18,7 @@ use Rattle.monitor.specs.declared.node.MonNode.{MonNode}
 use Rattle.monitor.specs.declared.node.MonNode.the-variants.{RangeCheck, DelayedCheck, Obligation, And as AndNode, Or as OrNode}
 use Rattle.monitor.specs.declared.node.Row.{Row}
 use Rattle.monitor.specs.declared.node.Row.the-variants.{Node, Unknown}
-use Rattle.node_step.specs.declared.state.NodeState.{NodeState}
+use Rattle.node_step.specs.declared.state.MonState.{MonState}
 use Rattle.lent.specs.Shape.{isMinusOne, fromMinusOne, windowKept, blamelessFits, joinedFits, owedFits, entryFits, rowFits}
 
 -- ---- culprits
@@ -61,7 +61,7 @@ module _ (c : ℤ) (f : SFits w64 c) where
   culprit-from h = from-is c (plain (negsuc 0) false h)
 
 -- ---- windows
-module _ (b : ℕ) (st : NodeState) where
+module _ (b : ℕ) (st : MonState) where
   kept : (x y z : Bool) → st .held ≡ x → st .failed ≡ y → (leb 1 (st .remaining) && leb (st .remaining) b) ≡ z → windowKept b st ≡ (bool.not x || (y || z))
   kept x y z p q r = λ i. bool.not (p i) || (q i || r i)
 
@@ -78,20 +78,20 @@ module _ (b : ℕ) (st : NodeState) where
   window-shut h = sym (ap (λ (x : Bool). bool.not x || (st .failed || (leb 1 (st .remaining) && leb (st .remaining) b))) h)
 
 -- ---- entries
-module _ (form wanted : ℕ) (st : NodeState) (r : Bool) (f : SFits w64 (st .culprit)) where
+module _ (form wanted : ℕ) (st : MonState) (r : Bool) (f : SFits w64 (st .culprit)) where
   pub blameless-yes : form ≡ wanted → r ≡ isMinusOne (toZ w64 (ofZ w64 (st .culprit))) → r ≡ blamelessFits form wanted st
   blameless-yes h e = e ∙ ap isMinusOne (toZ-ofZ f) ∙ sym (ap (λ (x : Bool). x && isMinusOne (st .culprit)) (eq-eqb form wanted h))
 
   pub joined-yes : form ≡ wanted → r ≡ fromMinusOne (toZ w64 (ofZ w64 (st .culprit))) → r ≡ joinedFits form wanted st
   joined-yes h e = e ∙ ap fromMinusOne (toZ-ofZ f) ∙ sym (ap (λ (x : Bool). x && fromMinusOne (st .culprit)) (eq-eqb form wanted h))
 
-pub blameless-no : (form wanted : ℕ) (st : NodeState) → (form ≡ wanted → ⊥) → false ≡ blamelessFits form wanted st
+pub blameless-no : (form wanted : ℕ) (st : MonState) → (form ≡ wanted → ⊥) → false ≡ blamelessFits form wanted st
 blameless-no form wanted st h = sym (ap (λ (x : Bool). x && isMinusOne (st .culprit)) (ne-eqb form wanted h))
 
-pub joined-no : (form wanted : ℕ) (st : NodeState) → (form ≡ wanted → ⊥) → false ≡ joinedFits form wanted st
+pub joined-no : (form wanted : ℕ) (st : MonState) → (form ≡ wanted → ⊥) → false ≡ joinedFits form wanted st
 joined-no form wanted st h = sym (ap (λ (x : Bool). x && fromMinusOne (st .culprit)) (ne-eqb form wanted h))
 
-module _ (b form bound : ℕ) (st : NodeState) where
+module _ (b form bound : ℕ) (st : MonState) where
   owed-by : (x y z : Bool) → eqb form 2 ≡ x → eqb bound b ≡ y → fromMinusOne (st .culprit) ≡ z → owedFits b form bound st ≡ (x && (y && (z && windowKept b st)))
   owed-by x y z p q r = λ i. p i && (q i && (r i && windowKept b st))
 
@@ -109,7 +109,7 @@ module _ (b form bound : ℕ) (st : NodeState) where
     owed-window r q w = w ∙ sym (owed-by true true true (eq-eqb form 2 h) (eq-eqb bound b k) (ap fromMinusOne (sym (toZ-ofZ f)) ∙ sym e ∙ q))
 
 -- ---- rows
-module _ (n : MonNode) (form bound : ℕ) (st : NodeState) (r : Bool) where
+module _ (n : MonNode) (form bound : ℕ) (st : MonState) (r : Bool) where
   pub fits-range : (s : SignalExpr) (g : AnchorRange) → n ≡ RangeCheck s g → r ≡ blamelessFits form 0 st → r ≡ entryFits n form bound st
   fits-range s g e q = q ∙ sym (ap (λ (x : MonNode). entryFits x form bound st) e)
 
@@ -125,8 +125,8 @@ module _ (n : MonNode) (form bound : ℕ) (st : NodeState) (r : Bool) where
   pub fits-or : n ≡ OrNode → r ≡ joinedFits form 4 st → r ≡ entryFits n form bound st
   fits-or e q = q ∙ sym (ap (λ (x : MonNode). entryFits x form bound st) e)
 
-pub row-known : (w : Row) (n : MonNode) (form bound : ℕ) (st : NodeState) (r : Bool) → w ≡ Node n → r ≡ entryFits n form bound st → r ≡ rowFits w form bound st
+pub row-known : (w : Row) (n : MonNode) (form bound : ℕ) (st : MonState) (r : Bool) → w ≡ Node n → r ≡ entryFits n form bound st → r ≡ rowFits w form bound st
 row-known w n form bound st r e q = q ∙ sym (ap (λ (x : Row). rowFits x form bound st) e)
 
-pub row-unknown : (w : Row) (form bound : ℕ) (st : NodeState) → w ≡ Unknown → false ≡ rowFits w form bound st
+pub row-unknown : (w : Row) (form bound : ℕ) (st : MonState) → w ≡ Unknown → false ≡ rowFits w form bound st
 row-unknown w form bound st e = sym (ap (λ (x : Row). rowFits x form bound st) e)

@@ -2,14 +2,16 @@
 -- (refusal 2). Whether a monitor fits depends on the compiled rule, and not on the table that holds it.
 --     HoldsRule    tables that a call on a monitor of rule m may be lent
 --     Ready        a monitor that a call over such tables takes, below 2^63
+--     refusalOf    1, then 2, of what a call on a monitor is lent
 use mathlib.Core.Bool.{Bool, true, _&&_}
 use mathlib.Core.List.{List}
-use mathlib.Core.Option.{Option, some}
+use mathlib.Core.Option.{Option, none, some}
 use mathlib.Core.Path.{_≡_}
 use Prim.Native.Nat.{ℕ, _+_, _*_, _≤_}
 use lib.Dec.{eqb, leb}
 use lib.ListN.{length}
-use Rattle.terms.specs.Limits.{nodeCells, ruleNodes}
+use Rattle.terms.specs.Choice.{pick}
+use Rattle.terms.specs.Limits.{nodeCells, rowCells, ruleNodes}
 use Rattle.formula.specs.Table.{roomy}
 use Rattle.monitor.specs.Mon.{Mon, count}
 use Rattle.monitor.specs.Table.{compiledOf}
@@ -49,7 +51,9 @@ monitorOf size forms bounds mem = record { size = size; forms = forms; bounds = 
 
 -- refusal 1: room for 1,024 formula nodes and for 256 monitor nodes
 abbrev pub hasRoom : Memory → Bool
-hasRoom mem = leb ruleNodes (length (mem .held)) && (leb ruleNodes (length (mem .remaining)) && (leb ruleNodes (length (mem .failed)) && leb ruleNodes (length (mem .culprits))))
+hasRoom mem =
+    leb ruleNodes (length (mem .held))
+    && (leb ruleNodes (length (mem .remaining)) && (leb ruleNodes (length (mem .failed)) && leb ruleNodes (length (mem .culprits))))
 
 abbrev pub tableRoom : List ℕ → List ℕ → List ℕ → Bool
 tableRoom ops nums nodes = leb nodeCells (length nodes) && roomy ops nums
@@ -81,20 +85,22 @@ pub record Ready (k : LentMonitor) (m : Mon) : Type 0 where
   pub fit : fits m k ≡ true
   pub room : monitorRoom (k .forms) (k .bounds) (k .memory) ≡ true
 
+-- the refusal of what a call on a monitor is lent: 1, then 2; 0 where there is none
+abbrev pub unfit : Option Mon → LentMonitor → ℕ
+unfit none k = 2
+unfit (some m) k = pick (fits m k) 0 2
+
+unfoldable pub refusalOf : LentTables → LentMonitor → ℕ
+refusalOf t k = pick (isLent t k) (unfit (ruleMon t) k) 1
+
 -- the same by n rows of a node table from row `nfirst` on: how the test goes
 abbrev pub rowsFit : List ℕ → ℕ → ℕ → LentMonitor → Bool
 rowsFit nodes nfirst n k = eqb (k .size) n && shapedFrom nodes nfirst (k .forms) (k .bounds) (k .memory) 0 n
 
 -- ---- what tests and parts of a call ask
--- n entries can be compared with n rows from row `nfirst` on
-pub record Comparable (nodes : List ℕ) (nfirst : ℕ) (forms bounds : List ℕ) (mem : Memory) (n : ℕ) : Type 0 where
-  pub rows : 7 * (nfirst + n) ≤ length nodes
+-- n rows from row `nfirst` on, and n entries
+pub record Spanned (nodes : List ℕ) (nfirst : ℕ) (forms bounds : List ℕ) (mem : Memory) (n : ℕ) : Type 0 where
+  pub rows : rowCells * (nfirst + n) ≤ length nodes
   pub forms-in : n ≤ length forms
   pub bounds-in : n ≤ length bounds
   pub inside : Inside mem n
-
--- the tables hold a compiled rule, and all that is lent has room
-pub record Known (t : LentTables) (k : LentMonitor) : Type 0 where
-  pub mon : Mon
-  pub is : ruleMon t ≡ some mon
-  pub lent : isLent t k ≡ true

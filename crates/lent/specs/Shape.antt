@@ -10,13 +10,14 @@ use Prim.Native.Nat.{ℕ, zero, suc, _+_}
 use lib.Dec.{eqb, leb}
 use lib.IntN.{ℤ, pos, negsuc}
 use lib.ListN.{getD}
+use Rattle.terms.specs.Forms.{rangeForm, delayedForm, obligationForm, andForm, orForm}
 use Rattle.monitor.specs.declared.node.MonNode.{MonNode}
 use Rattle.monitor.specs.declared.node.MonNode.the-variants.{RangeCheck, DelayedCheck, Obligation, And as AndNode, Or as OrNode}
 use Rattle.monitor.specs.declared.node.Row.{Row}
 use Rattle.monitor.specs.declared.node.Row.the-variants.{Node, Unknown}
 use Rattle.monitor.specs.Mon.{Mon, check, And, Or, count, nodeOf}
 use Rattle.monitor.specs.Table.{rowOf}
-use Rattle.node_step.specs.declared.state.NodeState.{NodeState}
+use Rattle.node_step.specs.declared.state.MonState.{MonState}
 use Rattle.node_step.specs.Memory.{Memory, get}
 
 abbrev pub isMinusOne : ℤ → Bool
@@ -30,25 +31,25 @@ fromMinusOne (negsuc zero) = true
 fromMinusOne (negsuc (suc n)) = false
 
 -- an open window of an obligation with bound b
-abbrev pub windowKept : ℕ → NodeState → Bool
+abbrev pub windowKept : ℕ → MonState → Bool
 windowKept b st = bool.not (st .held) || (st .failed || (leb 1 (st .remaining) && leb (st .remaining) b))
 
-abbrev pub blamelessFits : ℕ → ℕ → NodeState → Bool
+abbrev pub blamelessFits : ℕ → ℕ → MonState → Bool
 blamelessFits form wanted st = eqb form wanted && isMinusOne (st .culprit)
 
-abbrev pub joinedFits : ℕ → ℕ → NodeState → Bool
+abbrev pub joinedFits : ℕ → ℕ → MonState → Bool
 joinedFits form wanted st = eqb form wanted && fromMinusOne (st .culprit)
 
-abbrev pub owedFits : ℕ → ℕ → ℕ → NodeState → Bool
-owedFits b form bound st = eqb form 2 && (eqb bound b && (fromMinusOne (st .culprit) && windowKept b st))
+abbrev pub owedFits : ℕ → ℕ → ℕ → MonState → Bool
+owedFits b form bound st = eqb form obligationForm && (eqb bound b && (fromMinusOne (st .culprit) && windowKept b st))
 
 -- a node's entry, with the form and the bound that the monitor remembers, fits the node
-abbrev pub entryFits : MonNode → ℕ → ℕ → NodeState → Bool
-entryFits (RangeCheck s r) form bound st = blamelessFits form 0 st
-entryFits (DelayedCheck s t r) form bound st = blamelessFits form 1 st
+abbrev pub entryFits : MonNode → ℕ → ℕ → MonState → Bool
+entryFits (RangeCheck s r) form bound st = blamelessFits form rangeForm st
+entryFits (DelayedCheck s t r) form bound st = blamelessFits form delayedForm st
 entryFits (Obligation b s t r) form bound st = owedFits b form bound st
-entryFits AndNode form bound st = joinedFits form 3 st
-entryFits OrNode form bound st = joinedFits form 4 st
+entryFits AndNode form bound st = joinedFits form andForm st
+entryFits OrNode form bound st = joinedFits form orForm st
 
 -- node k of the rule and its parts behind it
 unfoldable pub fitsMon : Mon → List ℕ → List ℕ → Memory → ℕ → Bool
@@ -61,7 +62,7 @@ fitsMon (Or m n) forms bounds mem k =
     && (fitsMon m forms bounds mem (k + 1) && fitsMon n forms bounds mem (k + 1 + count m))
 
 -- ---- over the rows of a table
-abbrev pub rowFits : Row → ℕ → ℕ → NodeState → Bool
+abbrev pub rowFits : Row → ℕ → ℕ → MonState → Bool
 rowFits Unknown form bound st = false
 rowFits (Node n) form bound st = entryFits n form bound st
 

@@ -2,7 +2,7 @@
 use monitor::node::MonNode;
 use monitor::node::Row;
 use monitor::node::row_at;
-use node_step::state::NodeState;
+use node_step::state::MonState;
 use node_step::state::load;
 use terms::form::AND;
 use terms::form::DELAYED;
@@ -14,7 +14,7 @@ ghost use mathlib.Core.Bool.{true, false};
 ghost use Prim.Native.Nat.{_+_, _*_, _≤_, _<_};
 ghost use Rattle.node_step.specs.Memory.{entries};
 ghost use Rattle.lent.specs.Shape.{isMinusOne, fromMinusOne, windowKept, blamelessFits, joinedFits, owedFits, entryFits, rowFits, shapedFrom};
-ghost use Rattle.lent.specs.Lent.{Comparable, rowsFit, monitorOf};
+ghost use Rattle.lent.specs.Lent.{Spanned, rowsFit, monitorOf};
 
 fn is_minus_one(c: i64) -> bool
     ensures { λ r. ⌜ r ≡ isMinusOne c ⌝ }
@@ -38,7 +38,7 @@ fn is_culprit(c: i64) -> bool
 }
 
 // An open window has from 1 to the bound steps left.
-fn is_window(b: u64, st: NodeState) -> bool
+fn is_window(b: u64, st: MonState) -> bool
     ensures { λ r. ⌜ r ≡ windowKept b st ⌝ }
 {
     if st.held {
@@ -55,7 +55,7 @@ fn is_window(b: u64, st: NodeState) -> bool
 }
 
 // An obligation's entry.
-fn fits_owed(b: u64, form: u64, bound: u64, st: NodeState) -> bool
+fn fits_owed(b: u64, form: u64, bound: u64, st: MonState) -> bool
     ensures { λ r. ⌜ r ≡ owedFits b form bound st ⌝ }
 {
     if form == OBLIGATION {
@@ -69,7 +69,7 @@ fn fits_owed(b: u64, form: u64, bound: u64, st: NodeState) -> bool
 }
 
 // The entry of a node whose form is the number given, with a culprit of minus 1.
-fn fits_blameless(form: u64, wanted: u64, st: NodeState) -> bool
+fn fits_blameless(form: u64, wanted: u64, st: MonState) -> bool
     ensures { λ r. ⌜ r ≡ blamelessFits form wanted st ⌝ }
 {
     if form == wanted {
@@ -79,7 +79,7 @@ fn fits_blameless(form: u64, wanted: u64, st: NodeState) -> bool
 }
 
 // The entry of a joined node.
-fn fits_joined(form: u64, wanted: u64, st: NodeState) -> bool
+fn fits_joined(form: u64, wanted: u64, st: MonState) -> bool
     ensures { λ r. ⌜ r ≡ joinedFits form wanted st ⌝ }
 {
     if form == wanted {
@@ -88,7 +88,7 @@ fn fits_joined(form: u64, wanted: u64, st: NodeState) -> bool
     false
 }
 
-fn fits_node(node: MonNode, form: u64, bound: u64, st: NodeState) -> bool
+fn fits_node(node: MonNode, form: u64, bound: u64, st: MonState) -> bool
     ensures { λ r. ⌜ r ≡ entryFits node form bound st ⌝ }
 {
     match node {
@@ -109,7 +109,7 @@ fn fits_node(node: MonNode, form: u64, bound: u64, st: NodeState) -> bool
     }
 }
 
-fn fits_row(row: Row, form: u64, bound: u64, st: NodeState) -> bool
+fn fits_row(row: Row, form: u64, bound: u64, st: MonState) -> bool
     ensures { λ r. ⌜ r ≡ rowFits row form bound st ⌝ }
 {
     let Row::Node(node) = row else {
@@ -130,7 +130,7 @@ fn is_shaped(
     culprits: &[i64],
     n: usize,
 ) -> bool
-    requires { ⌜ Comparable (now nodes) nfirst (now forms) (now bounds) (entries (now held) (now remaining) (now failed) (now culprits)) n ⌝ }
+    requires { ⌜ Spanned (now nodes) nfirst (now forms) (now bounds) (entries (now held) (now remaining) (now failed) (now culprits)) n ⌝ }
     ensures { λ r. ⌜ r ≡ shapedFrom (now (nodes .entry)) nfirst (now (forms .entry)) (now (bounds .entry))
         (entries (now (held .entry)) (now (remaining .entry)) (now (failed .entry)) (now (culprits .entry))) 0 n ⌝ }
 {
@@ -160,7 +160,7 @@ pub fn is_fit(
     failed: &[bool],
     culprits: &[i64],
 ) -> bool
-    requires { ⌜ Comparable (now nodes) nfirst (now forms) (now bounds) (entries (now held) (now remaining) (now failed) (now culprits)) n ⌝ }
+    requires { ⌜ Spanned (now nodes) nfirst (now forms) (now bounds) (entries (now held) (now remaining) (now failed) (now culprits)) n ⌝ }
     ensures { λ r. ⌜ r ≡ rowsFit (now (nodes .entry)) nfirst n
         (monitorOf size (now (forms .entry)) (now (bounds .entry))
         (entries (now (held .entry)) (now (remaining .entry)) (now (failed .entry)) (now (culprits .entry)))) ⌝ }

@@ -3,3 +3,4 @@ pub mod Texts
 pub mod Parts
 pub mod Words
 pub mod Lines
+pub mod Sane

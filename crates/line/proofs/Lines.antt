@@ -1,312 +1,213 @@
 -- What a line holds, from the code's tests: one law for each return.
-use mathlib.Core.Path.{_≡_, refl, sym, ap, ap₂, subst, _∙_}
+use mathlib.Core.Path.{_≡_, refl, sym, ap, subst, _∙_}
 use mathlib.Core.Bool.{Bool, true, false, _&&_}
 use mathlib.Core.List.{List, [], _∷_}
 use Prim.Native.Nat.{ℕ, zero, suc, _+_, _-_, _^_, _≤_, _<_}
 use native.Mathlib.Omega.{arith}
 use native.Mathlib.Numerals.{add-one}
-use borrow.Author.Tests.{eq-eqb, ne-eqb, lt-ltb, le-ltb}
-use types.Run.{OneOf, miss}
-use denote.Enum.Declared.{tagOf}
+use borrow.Author.Tests.{eq-eqb, ne-eqb, lt-ltb, le-ltb, ltb-true, ltb-false}
 use lib.Dec.{eqb, leb, ltb}
-use lib.ListN.{length, getD, take, drop, length-take, length-drop}
+use lib.ListN.{length, take, drop, length-take, length-drop}
+use Rattle.terms.specs.Limits.{signals, steps}
+use Rattle.terms.specs.Kinds.{propertyKind, assumptionKind, kinds}
 use Rattle.terms.specs.Choice.{pick}
 use Rattle.number.specs.Number.{decimalOf, hexOf}
+use Rattle.number.proofs.Numbers.{below-or}
 use Rattle.number.specs.declared.Number.{Number}
-use Rattle.number.specs.declared.Number.the-variants.{Value, Wrong}
+use Rattle.number.specs.declared.Number.the-variants as number
 use Rattle.line.specs.Text.{parts, fields, eqbs, firstAt, Found}
-use Rattle.line.specs.Word.{wordOf, fieldCount}
-use Rattle.line.specs.Line.{bad, rule, wrong-rule, node, wrong-node, step, wrong-step, isLabel, kindOf, ruleKind, ruleLine, atomLine, boundLine, stepLine, content, ofFields, parse}
-use Rattle.line.specs.Means.{means, inLine, LineIs, aloneOf, atomBy, boundBy, atomOf, boundOf, pairOf, stepOf, stepBy, tripleOf}
-use Rattle.line.proofs.word.Word as word-type
+use Rattle.line.specs.Word.{wordOf}
+use Rattle.line.specs.Line as spec
+use Rattle.line.specs.Line.{isLabel, kindOf, ruleKind, ruleLine, atomLine, boundLine, stepLine, noField, oneField, twoFields, content, ofFields, parse, flawNumber}
+use Rattle.line.specs.Means.{held, sortIn, means, Meant, LineIs, Anywhere, FieldAt, ReadAs, behind, Tail, countOf}
 use Rattle.line.specs.declared.word.Word.{Word}
 use Rattle.line.specs.declared.word.Word.the-variants as word
+use Rattle.line.specs.declared.line.Sort.{Sort}
+use Rattle.line.specs.declared.line.Sort.the-variants as sort
+use Rattle.line.specs.declared.line.Flaw.{Flaw}
+use Rattle.line.specs.declared.line.Flaw.the-variants as flaw
+use Rattle.line.specs.declared.line.Content.{Content}
+use Rattle.line.specs.declared.line.Content.the-variants.{Rule, Node, Step}
 use Rattle.line.specs.declared.line.Line.{Line}
-use Rattle.line.specs.declared.line.Line.the-variants.{Bad, Rule, WrongRule, Node, WrongNode, Step, WrongStep}
+use Rattle.line.specs.declared.line.Line.the-variants.{Bad, Wrong, Right}
 use Rattle.line.proofs.Parts.{parts-cut, fields-whole}
+
+-- ---- sorts
+pub sort-held : (l : List ℕ) (c : Content) → spec.sortOf (held l c) ≡ sortIn c
+sort-held l (Rule start len kind) = refl
+sort-held l (Node op num) = refl
+sort-held l (Step s w) = refl
 
 -- ---- kinds
 module _ (f : List ℕ) where
-  pub kind-p : (t : Bool) → t ≡ eqbs f (80 ∷ []) → t ≡ true → 0 ≡ kindOf f
+  pub kind-p : (t : Bool) → t ≡ eqbs f (80 ∷ []) → t ≡ true → propertyKind ≡ kindOf f
   unfolding kindOf
   kind-p t p q = rw (← p, q) refl
 
-  pub kind-a : (t u : Bool) → t ≡ eqbs f (80 ∷ []) → t ≡ false → u ≡ eqbs f (65 ∷ []) → u ≡ true → 1 ≡ kindOf f
-  unfolding kindOf
-  kind-a t u p q p′ q′ = rw (← p, q, ← p′, q′) refl
+  module _ (t u : Bool) (p : t ≡ eqbs f (80 ∷ [])) (q : t ≡ false) (p′ : u ≡ eqbs f (65 ∷ [])) where
+    pub kind-a : u ≡ true → assumptionKind ≡ kindOf f
+    unfolding kindOf
+    kind-a q′ = rw (← p, q, ← p′, q′) refl
 
-  pub kind-none : (t u : Bool) → t ≡ eqbs f (80 ∷ []) → t ≡ false → u ≡ eqbs f (65 ∷ []) → u ≡ false → 2 ≡ kindOf f
-  unfolding kindOf
-  kind-none t u p q p′ q′ = rw (← p, q, ← p′, q′) refl
+    pub kind-none : u ≡ false → kinds ≡ kindOf f
+    unfolding kindOf
+    kind-none q′ = rw (← p, q, ← p′, q′) refl
 
   pub rule-labelled : (k : List ℕ) (t : Bool) (r : ℕ) → t ≡ isLabel f → t ≡ true → r ≡ kindOf k → r ≡ ruleKind f k
   unfolding ruleKind
   rule-labelled k t r p q e = rw (← p, q) e
 
-  pub rule-unlabelled : (k : List ℕ) (t : Bool) → t ≡ isLabel f → t ≡ false → 2 ≡ ruleKind f k
+  pub rule-unlabelled : (k : List ℕ) (t : Bool) → t ≡ isLabel f → t ≡ false → kinds ≡ ruleKind f k
   unfolding ruleKind
   rule-unlabelled k t p q = rw (← p, q) refl
 
-  -- ---- numbers
-  pub atom-wrong : (op : ℕ) (n : Number) → n ≡ decimalOf f → n ≡ Wrong → WrongNode ≡ atomOf op f
-  unfolding atomOf
-  atom-wrong op n p q = rw (← p, q) refl
+-- ---- answers that name no place
+any-bad : {p : spec.Line} → spec.bad ≡ p → Anywhere p Bad
+unfolding means
+any-bad e = record { is = λ l. record { holds = e; inside = tt } }
 
-  pub atom-right : (op v : ℕ) (n : Number) → n ≡ decimalOf f → n ≡ Value v → v < 64 → Node op v ≡ atomOf op f
-  unfolding atomOf
-  atom-right op v n p q h = rw (← p, q, lt-ltb v 64 h) refl
+any-wrong : {p : spec.Line} (s : Sort) (f : Flaw) → spec.wrong s f ≡ p → Anywhere p (Wrong s f)
+unfolding means
+any-wrong s f e = record { is = λ l. record { holds = e; inside = tt } }
 
-  pub atom-large : (op v : ℕ) (n : Number) → n ≡ decimalOf f → n ≡ Value v → 64 ≤ v → WrongNode ≡ atomOf op f
-  unfolding atomOf
-  atom-large op v n p q h = rw (← p, q, le-ltb v 64 h) refl
+any-node : {p : spec.Line} (op v : ℕ) → spec.right (spec.node op v) ≡ p → Anywhere p (Right (Node op v))
+unfolding means
+any-node op v e = record { is = λ l. record { holds = e; inside = tt } }
 
-  pub bound-wrong : (op : ℕ) (n : Number) → n ≡ decimalOf f → n ≡ Wrong → WrongNode ≡ boundOf op f
-  unfolding boundOf
-  bound-wrong op n p q = rw (← p, q) refl
+any-step : {p : spec.Line} (s w : ℕ) → spec.right (spec.step s w) ≡ p → Anywhere p (Right (Step s w))
+unfolding means
+any-step s w e = record { is = λ l. record { holds = e; inside = tt } }
 
-  pub bound-right : (op v : ℕ) (n : Number) → n ≡ decimalOf f → n ≡ Value v → Node op v ≡ boundOf op f
-  unfolding boundOf
-  bound-right op v n p q = rw (← p, q) refl
+-- ---- numbers
+module _ (f : List ℕ) (n : Number) (p : n ≡ decimalOf f) where
+  pub atom-wrong : (op : ℕ) → n ≡ number.Wrong → Anywhere (atomLine op (decimalOf f)) (Wrong sort.Node flaw.Number)
+  unfolding atomLine
+  atom-wrong op q = any-wrong sort.Node flaw.Number (rw (← p, q) refl)
 
-  wrong-by : (t : Number) → stepBy Wrong t ≡ WrongStep
-  wrong-by t = refl
+  pub atom-right : (op v : ℕ) → n ≡ number.Value v → v < signals → Anywhere (atomLine op (decimalOf f)) (Right (Node op v))
+  unfolding atomLine
+  atom-right op v q h = any-node op v (rw (← p, q, lt-ltb v signals h) refl)
 
-  large-by : (v : ℕ) (t : Number) → 9223372036854775808 ≤ v → stepBy (Value v) t ≡ WrongStep
-  large-by v Wrong h = refl
-  large-by v (Value u) h = rw (le-ltb v (2 ^ 63) h) refl
+  pub atom-large : (op v : ℕ) → n ≡ number.Value v → signals ≤ v → Anywhere (atomLine op (decimalOf f)) (Wrong sort.Node flaw.Number)
+  unfolding atomLine
+  atom-large op v q h = any-wrong sort.Node flaw.Number (rw (← p, q, le-ltb v signals h) refl)
 
-  pub step-wrong : (g : List ℕ) (n : Number) → n ≡ decimalOf f → n ≡ Wrong → WrongStep ≡ stepOf f g
-  unfolding stepOf
-  step-wrong g n p q = rw (← p, q) refl
+  pub bound-wrong : (op : ℕ) → n ≡ number.Wrong → Anywhere (boundLine op (decimalOf f)) (Wrong sort.Node flaw.Number)
+  unfolding boundLine
+  bound-wrong op q = any-wrong sort.Node flaw.Number (rw (← p, q) refl)
 
-  pub step-large : (g : List ℕ) (v : ℕ) (n : Number) → n ≡ decimalOf f → n ≡ Value v → 9223372036854775808 ≤ v → WrongStep ≡ stepOf f g
-  unfolding stepOf
-  step-large g v n p q h = rw (← p, q) (sym (large-by v (hexOf g) h))
+  pub bound-right : (op v : ℕ) → n ≡ number.Value v → Anywhere (boundLine op (decimalOf f)) (Right (Node op v))
+  unfolding boundLine
+  bound-right op v q = any-node op v (rw (← p, q) refl)
 
-  pub step-truths : (g : List ℕ) (v : ℕ) (n m : Number) → n ≡ decimalOf f → n ≡ Value v → m ≡ hexOf g → m ≡ Wrong → WrongStep ≡ stepOf f g
-  unfolding stepOf
-  step-truths g v n m p q p′ q′ = rw (← p, q, ← p′, q′) refl
+  pub step-wrong : (g : List ℕ) → n ≡ number.Wrong → Anywhere (stepLine (decimalOf f) (hexOf g)) (Wrong sort.Step flaw.Number)
+  unfolding stepLine
+  step-wrong g q = any-wrong sort.Step flaw.Number (rw (← p, q) refl)
 
-  pub step-right : (g : List ℕ) (v u : ℕ) (n m : Number) → n ≡ decimalOf f → n ≡ Value v → v < 9223372036854775808 → m ≡ hexOf g → m ≡ Value u → Step v u ≡ stepOf f g
-  unfolding stepOf
-  step-right g v u n m p q h p′ q′ = rw (← p, q, ← p′, q′, lt-ltb v (2 ^ 63) h) refl
+  module _ (g : List ℕ) (v : ℕ) (q : n ≡ number.Value v) where
+    pub step-large : steps ≤ v → Anywhere (stepLine (decimalOf f) (hexOf g)) (Wrong sort.Step flaw.Number)
+    unfolding stepLine
+    step-large h = any-wrong sort.Step flaw.Number (rw (← p, q) (go (hexOf g)))
+      where
+        go : (t : Number) → spec.wrong sort.Step flaw.Number ≡ stepLine (number.Value v) t
+        go number.Wrong = refl
+        go (number.Value u) = rw (le-ltb v steps h) refl
 
--- ---- by the word
-pub alone-plain : (w : Word) (op : ℕ) → w ≡ word.Plain op → Node op 0 ≡ aloneOf w
-unfolding aloneOf
-alone-plain w op e = rw e refl
+    module _ (m : Number) (p′ : m ≡ hexOf g) (h : v < steps) where
+      pub step-truths : m ≡ number.Wrong → Anywhere (stepLine (decimalOf f) (hexOf g)) (Wrong sort.Step flaw.Number)
+      unfolding stepLine
+      step-truths q′ = any-wrong sort.Step flaw.Number (rw (← p, q, ← p′, q′) refl)
 
-pub alone-other : (w : Word) → OneOf (0 ∷ 2 ∷ 3 ∷ 4 ∷ 5 ∷ []) (tagOf word-type.the-type w) → Bad ≡ aloneOf w
-unfolding aloneOf
-alone-other (word.Atom op) h = refl
-alone-other (word.Plain op) h = absurd (miss (0 ∷ 2 ∷ 3 ∷ 4 ∷ 5 ∷ []) 1 tt h)
-alone-other (word.Bounded op) h = refl
-alone-other word.Rule h = refl
-alone-other word.Step h = refl
-alone-other word.Unknown h = refl
+      pub step-right : (u : ℕ) → m ≡ number.Value u → Anywhere (stepLine (decimalOf f) (hexOf g)) (Right (Step v u))
+      unfolding stepLine
+      step-right u q′ = any-step v u (rw (← p, q, ← p′, q′, lt-ltb v steps h) refl)
 
-pub pair-atom : (w : Word) (op : ℕ) (f : List ℕ) (r : Line) → w ≡ word.Atom op → r ≡ atomOf op f → r ≡ pairOf w f
-unfolding pairOf
-pair-atom w op f r e h = rw e h
+-- ---- by the word: its fields are as many as it takes, or the line is none
+no-field : (r : spec.Line) (n : ℕ) (f g : List ℕ) → (n ≡ 0 → ⊥) → spec.bad ≡ noField r (behind n f g)
+no-field r zero f g h = absurd (h refl)
+no-field r (suc zero) f g h = refl
+no-field r (suc (suc zero)) f g h = refl
+no-field r (suc (suc (suc n))) f g h = refl
 
-pub pair-bounded : (w : Word) (op : ℕ) (f : List ℕ) (r : Line) → w ≡ word.Bounded op → r ≡ boundOf op f → r ≡ pairOf w f
-unfolding pairOf
-pair-bounded w op f r e h = rw e h
+one-field : (r : List ℕ → spec.Line) (n : ℕ) (f g : List ℕ) → (n ≡ 1 → ⊥) → spec.bad ≡ oneField r (behind n f g)
+one-field r zero f g h = refl
+one-field r (suc zero) f g h = absurd (h refl)
+one-field r (suc (suc zero)) f g h = refl
+one-field r (suc (suc (suc n))) f g h = refl
 
-pub pair-other : (w : Word) (f : List ℕ) → OneOf (1 ∷ 3 ∷ 4 ∷ 5 ∷ []) (tagOf word-type.the-type w) → Bad ≡ pairOf w f
-unfolding pairOf
-pair-other (word.Atom op) f h = absurd (miss (1 ∷ 3 ∷ 4 ∷ 5 ∷ []) 0 tt h)
-pair-other (word.Plain op) f h = refl
-pair-other (word.Bounded op) f h = absurd (miss (1 ∷ 3 ∷ 4 ∷ 5 ∷ []) 2 tt h)
-pair-other word.Rule f h = refl
-pair-other word.Step f h = refl
-pair-other word.Unknown f h = refl
+two-fields : (r : List ℕ → List ℕ → spec.Line) (n : ℕ) (f g : List ℕ) → (n ≡ 2 → ⊥) → spec.bad ≡ twoFields r (behind n f g)
+two-fields r zero f g h = refl
+two-fields r (suc zero) f g h = refl
+two-fields r (suc (suc zero)) f g h = absurd (h refl)
+two-fields r (suc (suc (suc n))) f g h = refl
 
-module _ (w : Word) (f g : List ℕ) (start : ℕ) where
-  triple-at-rule : OneOf (3 ∷ []) (tagOf word-type.the-type w) → w ≡ word.Rule
-  triple-at-rule h = go w h
-    where
-      go : (w : Word) → OneOf (3 ∷ []) (tagOf word-type.the-type w) → w ≡ word.Rule
-      go (word.Atom op) h = absurd (miss (3 ∷ []) 0 tt h)
-      go (word.Plain op) h = absurd (miss (3 ∷ []) 1 tt h)
-      go (word.Bounded op) h = absurd (miss (3 ∷ []) 2 tt h)
-      go word.Rule h = refl
-      go word.Step h = absurd (miss (3 ∷ []) 4 tt h)
-      go word.Unknown h = absurd (miss (3 ∷ []) 5 tt h)
+module _ (w : Word) (n : ℕ) (f g : List ℕ) (start : ℕ) where
+  read-any : (p : spec.Line) (r : Line) → Anywhere p r → p ≡ content w (behind n f g) → ReadAs f start (content w (behind n f g)) r
+  read-any p r a e = subst (λ (x : spec.Line). ReadAs f start x r) e (record { is = λ l _. a .is l })
 
-  triple-at-step : OneOf (4 ∷ []) (tagOf word-type.the-type w) → w ≡ word.Step
-  triple-at-step h = go w h
-    where
-      go : (w : Word) → OneOf (4 ∷ []) (tagOf word-type.the-type w) → w ≡ word.Step
-      go (word.Atom op) h = absurd (miss (4 ∷ []) 0 tt h)
-      go (word.Plain op) h = absurd (miss (4 ∷ []) 1 tt h)
-      go (word.Bounded op) h = absurd (miss (4 ∷ []) 2 tt h)
-      go word.Rule h = absurd (miss (4 ∷ []) 3 tt h)
-      go word.Step h = refl
-      go word.Unknown h = absurd (miss (4 ∷ []) 5 tt h)
+  read-bad : spec.bad ≡ content w (behind n f g) → ReadAs f start (content w (behind n f g)) Bad
+  read-bad e = read-any _ Bad (any-bad refl) e
 
-  pub triple-wrong : (k : ℕ) → OneOf (3 ∷ []) (tagOf word-type.the-type w) → k ≡ ruleKind f g → k ≡ 2 → WrongRule ≡ tripleOf w f g start
-  unfolding tripleOf
-  triple-wrong k h p q = rw (triple-at-rule h, ← p, eq-eqb k 2 q) refl
+  pub unknown-word : w ≡ word.Unknown → ReadAs f start (content w (behind n f g)) Bad
+  unfolding content
+  unknown-word e = read-bad (rw e refl)
 
-  pub triple-rule : (k : ℕ) → OneOf (3 ∷ []) (tagOf word-type.the-type w) → k ≡ ruleKind f g → (k ≡ 2 → ⊥) → Rule start (length f) k ≡ tripleOf w f g start
-  unfolding tripleOf
-  triple-rule k h p q = rw (triple-at-rule h, ← p, ne-eqb k 2 q) refl
+  module _ (op : ℕ) where
+    pub atom-many : w ≡ word.Atom op → (n ≡ 1 → ⊥) → ReadAs f start (content w (behind n f g)) Bad
+    unfolding content
+    atom-many e h = read-bad (rw e (one-field _ n f g h))
 
-  pub triple-step : (r : Line) → OneOf (4 ∷ []) (tagOf word-type.the-type w) → r ≡ stepOf f g → r ≡ tripleOf w f g start
-  unfolding tripleOf
-  triple-step r h e = rw (triple-at-step h) e
+    pub atom-read : (r : Line) → w ≡ word.Atom op → n ≡ 1 → Anywhere (atomLine op (decimalOf f)) r → ReadAs f start (content w (behind n f g)) r
+    unfolding content
+    atom-read r e h a = read-any _ r a (rw (e, h) refl)
 
-  pub triple-other : OneOf (0 ∷ 1 ∷ 2 ∷ 5 ∷ []) (tagOf word-type.the-type w) → Bad ≡ tripleOf w f g start
-  unfolding tripleOf
-  triple-other h = go w h
-    where
-      go : (w : Word) → OneOf (0 ∷ 1 ∷ 2 ∷ 5 ∷ []) (tagOf word-type.the-type w) → Bad ≡ tripleOf w f g start
-      go (word.Atom op) h = refl
-      go (word.Plain op) h = refl
-      go (word.Bounded op) h = refl
-      go word.Rule h = absurd (miss (0 ∷ 1 ∷ 2 ∷ 5 ∷ []) 3 tt h)
-      go word.Step h = absurd (miss (0 ∷ 1 ∷ 2 ∷ 5 ∷ []) 4 tt h)
-      go word.Unknown h = refl
+    pub plain-many : w ≡ word.Plain op → (n ≡ 0 → ⊥) → ReadAs f start (content w (behind n f g)) Bad
+    unfolding content
+    plain-many e h = read-bad (rw e (no-field _ n f g h))
+
+    pub plain-read : w ≡ word.Plain op → n ≡ 0 → ReadAs f start (content w (behind n f g)) (Right (Node op 0))
+    unfolding content
+    plain-read e h = read-any _ (Right (Node op 0)) (any-node op 0 refl) (rw (e, h) refl)
+
+    pub bound-many : w ≡ word.Bounded op → (n ≡ 1 → ⊥) → ReadAs f start (content w (behind n f g)) Bad
+    unfolding content
+    bound-many e h = read-bad (rw e (one-field _ n f g h))
+
+    pub bound-read : (r : Line) → w ≡ word.Bounded op → n ≡ 1 → Anywhere (boundLine op (decimalOf f)) r → ReadAs f start (content w (behind n f g)) r
+    unfolding content
+    bound-read r e h a = read-any _ r a (rw (e, h) refl)
+
+  pub step-many : w ≡ word.Step → (n ≡ 2 → ⊥) → ReadAs f start (content w (behind n f g)) Bad
+  unfolding content
+  step-many e h = read-bad (rw e (two-fields _ n f g h))
+
+  pub step-read : (r : Line) → w ≡ word.Step → n ≡ 2 → Anywhere (stepLine (decimalOf f) (hexOf g)) r → ReadAs f start (content w (behind n f g)) r
+  unfolding content
+  step-read r e h a = read-any _ r a (rw (e, h) refl)
+
+  pub rule-many : w ≡ word.Rule → (n ≡ 2 → ⊥) → ReadAs f start (content w (behind n f g)) Bad
+  unfolding content
+  rule-many e h = read-bad (rw e (two-fields _ n f g h))
+
+  module _ (k : ℕ) (e : w ≡ word.Rule) (h : n ≡ 2) (p : k ≡ ruleKind f g) where
+    pub rule-wrong : k ≡ kinds → ReadAs f start (content w (behind n f g)) (Wrong sort.Rule flaw.Label)
+    unfolding content ruleLine
+    rule-wrong q = read-any _ (Wrong sort.Rule flaw.Label) (any-wrong sort.Rule flaw.Label refl) (rw (e, h, ← p, eq-eqb k kinds q) refl)
+
+    pub rule-right : (k ≡ kinds → ⊥) → ReadAs f start (content w (behind n f g)) (Right (Rule start (length f) k))
+    unfolding content ruleLine means
+    rule-right q = record { is = λ l a. record { holds = rw (e, h, ← p, ne-eqb k kinds q, a .is) refl; inside = a .inside } }
 
 -- ---- the fields of a line
-alone-in : (n : ℕ) (w : Word) → inLine n (aloneOf w)
-unfolding aloneOf
-alone-in n (word.Atom op) = tt
-alone-in n (word.Plain op) = tt
-alone-in n (word.Bounded op) = tt
-alone-in n word.Rule = tt
-alone-in n word.Step = tt
-alone-in n word.Unknown = tt
-
-atom-in : (n op : ℕ) (f : List ℕ) → inLine n (atomOf op f)
-unfolding atomOf
-atom-in n op f = go (decimalOf f)
-  where
-    small : (v : ℕ) (t : Bool) → inLine n (pick t (Node op v) WrongNode)
-    small v true = tt
-    small v false = tt
-
-    go : (m : Number) → inLine n (atomBy op m)
-    go Wrong = tt
-    go (Value v) = small v (ltb v 64)
-
-bound-in : (n op : ℕ) (f : List ℕ) → inLine n (boundOf op f)
-unfolding boundOf
-bound-in n op f = go (decimalOf f)
-  where
-    go : (m : Number) → inLine n (boundBy op m)
-    go Wrong = tt
-    go (Value v) = tt
-
-pair-in : (n : ℕ) (w : Word) (f : List ℕ) → inLine n (pairOf w f)
-unfolding pairOf
-pair-in n (word.Atom op) f = atom-in n op f
-pair-in n (word.Plain op) f = tt
-pair-in n (word.Bounded op) f = bound-in n op f
-pair-in n word.Rule f = tt
-pair-in n word.Step f = tt
-pair-in n word.Unknown f = tt
-
-step-in : (n : ℕ) (f g : List ℕ) → inLine n (stepOf f g)
-unfolding stepOf
-step-in n f g = go (decimalOf f) (hexOf g)
-  where
-    small : (v u : ℕ) (t : Bool) → inLine n (pick t (Step v u) WrongStep)
-    small v u true = tt
-    small v u false = tt
-
-    go : (a b : Number) → inLine n (stepBy a b)
-    go Wrong b = tt
-    go (Value v) Wrong = tt
-    go (Value v) (Value u) = small v u (ltb v (2 ^ 63))
-
-triple-in : (n : ℕ) (w : Word) (f g : List ℕ) (start : ℕ) → start + length f ≤ n → inLine n (tripleOf w f g start)
-unfolding tripleOf
-triple-in n (word.Atom op) f g start h = tt
-triple-in n (word.Plain op) f g start h = tt
-triple-in n (word.Bounded op) f g start h = tt
-triple-in n word.Rule f g start h = go (eqb (ruleKind f g) 2)
-  where
-    go : (t : Bool) → inLine n (pick t WrongRule (Rule start (length f) (ruleKind f g)))
-    go true = tt
-    go false = h
-triple-in n word.Step f g start h = step-in n f g
-triple-in n word.Unknown f g start h = tt
-
--- one, two and three fields, by the word
-alone-parse : (l f : List ℕ) (w : Word) → means l (aloneOf w) ≡ ofFields w (f ∷ [])
-unfolding means aloneOf ofFields fieldCount content
-alone-parse l f (word.Atom op) = refl
-alone-parse l f (word.Plain op) = refl
-alone-parse l f (word.Bounded op) = refl
-alone-parse l f word.Rule = refl
-alone-parse l f word.Step = refl
-alone-parse l f word.Unknown = refl
-
-atom-parse : (l : List ℕ) (op : ℕ) (f : List ℕ) → means l (atomOf op f) ≡ atomLine op (decimalOf f)
-unfolding atomOf means atomLine
-atom-parse l op f = go (decimalOf f)
-  where
-    go : (n : Number) → means l (Rattle.line.specs.Means.atomBy op n) ≡ atomLine op n
-    go Wrong = refl
-    go (Value v) = pick-go (ltb v 64)
-      where
-        pick-go : (t : Bool) → means l (pick t (Node op v) WrongNode) ≡ pick t (node op v) wrong-node
-        pick-go true = refl
-        pick-go false = refl
-
-bound-parse : (l : List ℕ) (op : ℕ) (f : List ℕ) → means l (boundOf op f) ≡ boundLine op (decimalOf f)
-unfolding boundOf means boundLine
-bound-parse l op f = go (decimalOf f)
-  where
-    go : (n : Number) → means l (Rattle.line.specs.Means.boundBy op n) ≡ boundLine op n
-    go Wrong = refl
-    go (Value v) = refl
-
-pair-parse : (l f g : List ℕ) (w : Word) → means l (pairOf w g) ≡ ofFields w (f ∷ g ∷ [])
-unfolding means pairOf ofFields fieldCount content
-pair-parse l f g (word.Atom op) = atom-parse l op g
-pair-parse l f g (word.Plain op) = refl
-pair-parse l f g (word.Bounded op) = bound-parse l op g
-pair-parse l f g word.Rule = refl
-pair-parse l f g word.Step = refl
-pair-parse l f g word.Unknown = refl
-
-step-parse : (l f g : List ℕ) → means l (stepOf f g) ≡ stepLine (decimalOf f) (hexOf g)
-unfolding stepOf means stepLine
-step-parse l f g = go (decimalOf f) (hexOf g)
-  where
-    go : (n m : Number) → means l (stepBy n m) ≡ stepLine n m
-    go Wrong m = refl
-    go (Value v) Wrong = refl
-    go (Value v) (Value u) = pick-go (ltb v (2 ^ 63))
-      where
-        pick-go : (t : Bool) → means l (pick t (Step v u) WrongStep) ≡ pick t (step v u) wrong-step
-        pick-go true = refl
-        pick-go false = refl
-
-triple-parse : (l e f g : List ℕ) (start : ℕ) (w : Word) → take (length f) (drop start l) ≡ f → means l (tripleOf w f g start) ≡ ofFields w (e ∷ f ∷ g ∷ [])
-unfolding means tripleOf ofFields fieldCount content ruleLine
-triple-parse l e f g start (word.Atom op) h = refl
-triple-parse l e f g start (word.Plain op) h = refl
-triple-parse l e f g start (word.Bounded op) h = refl
-triple-parse l e f g start word.Rule h = go (eqb (ruleKind f g) 2) refl
-  where
-    go : (t : Bool) → eqb (ruleKind f g) 2 ≡ t → means l (pick t WrongRule (Rule start (length f) (ruleKind f g))) ≡ ruleLine f g
-    go true q = rw q refl
-    go false q = rw (q, h) refl
-triple-parse l e f g start word.Step h = step-parse l f g
-triple-parse l e f g start word.Unknown h = refl
-
-many-parse : (w : Word) (a b c d : List ℕ) (fs : List (List ℕ)) → bad ≡ ofFields w (a ∷ b ∷ c ∷ d ∷ fs)
-unfolding ofFields fieldCount
-many-parse (word.Atom op) a b c d fs = rw (ne-eqb (length (a ∷ b ∷ c ∷ d ∷ fs)) 2 (λ z. omega arith)) refl
-many-parse (word.Plain op) a b c d fs = rw (ne-eqb (length (a ∷ b ∷ c ∷ d ∷ fs)) 1 (λ z. omega arith)) refl
-many-parse (word.Bounded op) a b c d fs = rw (ne-eqb (length (a ∷ b ∷ c ∷ d ∷ fs)) 2 (λ z. omega arith)) refl
-many-parse word.Rule a b c d fs = rw (ne-eqb (length (a ∷ b ∷ c ∷ d ∷ fs)) 3 (λ z. omega arith)) refl
-many-parse word.Step a b c d fs = rw (ne-eqb (length (a ∷ b ∷ c ∷ d ∷ fs)) 3 (λ z. omega arith)) refl
-many-parse word.Unknown a b c d fs = rw (ne-eqb (length (a ∷ b ∷ c ∷ d ∷ fs)) 0 (λ z. omega arith)) refl
+-- no word has three fields behind it
+many-fields : (w : Word) (a b c : List ℕ) (fs : List (List ℕ)) → spec.bad ≡ content w (a ∷ b ∷ c ∷ fs)
+unfolding content
+many-fields (word.Atom op) a b c fs = refl
+many-fields (word.Plain op) a b c fs = refl
+many-fields (word.Bounded op) a b c fs = refl
+many-fields word.Rule a b c fs = refl
+many-fields word.Step a b c fs = refl
+many-fields word.Unknown a b c fs = refl
 
 -- the fields from where the tabs stand
 cut-at : (l : List ℕ) (t : ℕ) → Found 9 l t → (t ≡ length l → ⊥) → fields l ≡ take t l ∷ fields (drop (t + 1) l)
@@ -324,47 +225,66 @@ never-empty l = go (Rattle.number.proofs.Numbers.below-or (firstAt 9 l) (length
     go (mathlib.Core.Logic.inl k) = (take (firstAt 9 l) l, fields (drop (suc (firstAt 9 l)) l), parts-cut 9 ([] ∷ []) l k)
     go (mathlib.Core.Logic.inr k) = (l, [], fields-whole l (omega (arith, Rattle.line.proofs.Parts.first-inside 9 l)))
 
--- ---- the parts exist
-pub past-in : (l : List ℕ) (t : ℕ) → Found 9 l t → (t ≡ length l → ⊥) → t + 1 ≤ length l
-past-in l t f h = omega (arith, native.Mathlib.Numerals.lt-of-le-of-ne (f .inside) h)
+-- ---- what stands past a tab
+pub tail-cut : (l r : List ℕ) (t : ℕ) → t < length l → r ≡ drop (t + 1) l → Tail l t r
+tail-cut l r t h e = record { cut = λ _. e; none = λ k. absurd (omega arith) }
 
-pub upto-in : (c : ℕ) (l : List ℕ) (t : ℕ) → Found c l t → t ≤ length l
-upto-in c l t f = f .inside
+pub tail-none : (l r : List ℕ) (t : ℕ) → length l ≤ t → r ≡ drop t l → Tail l t r
+tail-none l r t h e = record { cut = λ k. absurd (omega arith); none = λ _. e ∙ lib.ListN.drop-of-length-le l {i = t} h }
 
-module _ (l first : List ℕ) (t : ℕ) (w : Word) (f : Found 9 l t) (e : first ≡ take t l) (is : w ≡ wordOf first) where
-  -- one field
-  pub line-alone : (r : Line) → t ≡ length l → r ≡ aloneOf w → LineIs l r
-  unfolding parse
-  line-alone r h p =
-      let fs : fields l ≡ l ∷ [] = fields-whole l (sym (f .is) ∙ h) in
-      let z : first ≡ l = e ∙ lib.Seq.take-all t l (omega arith) in
-      record { holds = rw (fs, ← z, ← is, p) (alone-parse first first w); inside = rw p (alone-in (length l) w) }
+pub tail-short : (l r : List ℕ) (t : ℕ) → Tail l t r → length r ≤ length l
+tail-short l r t a = go (below-or t (length l))
+  where
+    go : mathlib.Core.Logic._⊎_ (t < length l) (length l ≤ t) → length r ≤ length l
+    go (mathlib.Core.Logic.inl k) = omega (arith, ap length (a .cut k), length-drop (t + 1) l)
+    go (mathlib.Core.Logic.inr k) = omega (arith, ap length (a .none k))
 
-  module _ (rest : List ℕ) (u : ℕ) (h : t ≡ length l → ⊥) (past : rest ≡ drop (t + 1) l) (f′ : Found 9 rest u) where
-    rest-fields : fields l ≡ first ∷ fields rest
-    rest-fields = cut-at l t f h ∙ rw (← e, ← past) refl
+-- it is the line's end
+tail-drop : (l r : List ℕ) (t : ℕ) → Tail l t r → r ≡ drop (length l - length r) l
+tail-drop l r t a = go (below-or t (length l))
+  where
+    go : mathlib.Core.Logic._⊎_ (t < length l) (length l ≤ t) → r ≡ drop (length l - length r) l
+    go (mathlib.Core.Logic.inl k) =
+        let z : length l - length r ≡ t + 1 = omega (arith, ap length (a .cut k), length-drop (t + 1) l) in
+        a .cut k ∙ sym (ap (λ (i : ℕ). drop i l) z)
+    go (mathlib.Core.Logic.inr k) = a .none k ∙ sym (lib.ListN.drop-of-length-le l {i = length l - length r} (omega (arith, ap length (a .none k))))
 
-    pub line-pair : (r : Line) → u ≡ length rest → r ≡ pairOf w rest → LineIs l r
-    unfolding parse
-    line-pair r h′ p =
-        let fs : fields l ≡ first ∷ rest ∷ [] = rest-fields ∙ ap (first ∷_) (fields-whole rest (sym (f′ .is) ∙ h′)) in
-        record { holds = rw (fs, ← is, p) (pair-parse l first rest w); inside = rw p (pair-in (length l) w rest) }
+-- ---- the fields behind the word, from where the tabs stand
+whole-field : (l : List ℕ) (t : ℕ) → Found 9 l t → ltb t (length l) ≡ false → fields l ≡ l ∷ []
+whole-field l t f h = fields-whole l (sym (f .is) ∙ omega (arith, ltb-false t (length l) h, f .inside))
 
-    module _ (last : List ℕ) (v : ℕ) (h′ : u ≡ length rest → ⊥) (past′ : last ≡ drop (u + 1) rest) (f″ : Found 9 last v) where
-      last-fields : fields l ≡ first ∷ take u rest ∷ fields last
-      last-fields = rest-fields ∙ ap (first ∷_) (cut-at rest u f′ h′ ∙ rw (← past′) refl)
+cut-field : (l r : List ℕ) (t : ℕ) → Found 9 l t → Tail l t r → ltb t (length l) ≡ true → fields l ≡ take t l ∷ fields r
+cut-field l r t f a h =
+    let k : t < length l = ltb-true t (length l) h in
+    cut-at l t f (λ (z : t ≡ length l). omega arith) ∙ ap (λ (x : List ℕ). take t l ∷ fields x) (sym (a .cut k))
 
-      pub line-many : v < length last → LineIs l Bad
-      unfolding parse means
-      line-many k =
-          let (a, b, q) = never-empty (drop (v + 1) last) in
-          let fs : fields l ≡ first ∷ take u rest ∷ take v last ∷ a ∷ b = last-fields ∙ ap (λ (x : List (List ℕ)). first ∷ take u rest ∷ x) (cut-at last v f″ (λ (z : v ≡ length last). omega arith) ∙ ap (take v last ∷_) q) in
-          record { holds = rw (fs, ← is) (many-parse w first (take u rest) (take v last) a b); inside = tt }
+take-whole : (l : List ℕ) (t : ℕ) → ltb t (length l) ≡ false → take t l ≡ l
+take-whole l t h = lib.Seq.take-all t l (omega (arith, ltb-false t (length l) h))
 
-      pub line-triple : (mid : List ℕ) (r : Line) → length last ≤ v → mid ≡ take u rest → r ≡ tripleOf w mid last (t + 1) → LineIs l r
-      unfolding parse
-      line-triple mid r k m p =
-          let fs : fields l ≡ first ∷ mid ∷ last ∷ [] = last-fields ∙ rw (← m, fields-whole last (sym (f″ .is) ∙ omega (arith, f″ .inside))) refl in
-          let n : length mid ≡ u = ap length m ∙ lib.Seq.length-take-le u rest (f′ .inside) in
-          let z : take (length mid) (drop (t + 1) l) ≡ mid = rw (← past, n) (sym m) in
-          record { holds = rw (fs, ← is, p) (triple-parse l first mid last (t + 1) w z); inside = rw p (triple-in (length l) w mid last (t + 1) (omega (arith, n, f′ .inside, ap length past, length-drop (t + 1) l, past-in l t f h))) }
+module _ (l first rest last : List ℕ) (t u v : ℕ) (w : Word) (f : Found 9 l t) (e : first ≡ take t l) (is : w ≡ wordOf first)
+    (a : Tail l t rest) (f′ : Found 9 rest u) (a′ : Tail rest u last) (f″ : Found 9 last v) where
+  behind-is : (x y z : Bool) → ltb t (length l) ≡ x → ltb u (length rest) ≡ y → ltb v (length last) ≡ z → parse l ≡ content w (behind (countOf x y z) (take u rest) last)
+  unfolding parse ofFields
+  behind-is false y z p q r = rw (whole-field l t f p, is, e, take-whole l t p) refl
+  behind-is true false z p q r = rw (cut-field l rest t f a p, ← e, ← is, whole-field rest u f′ q, take-whole rest u q) refl
+  behind-is true true false p q r = rw (cut-field l rest t f a p, ← e, ← is, cut-field rest last u f′ a′ q, whole-field last v f″ r) refl
+  behind-is true true true p q r =
+      let (c, d, s) = never-empty (drop (v + 1) last) in
+      let k : v < length last = ltb-true v (length last) r in
+      let three : fields last ≡ take v last ∷ c ∷ d = cut-at last v f″ (λ (o : v ≡ length last). omega arith) ∙ ap (take v last ∷_) s in
+      rw (cut-field l rest t f a p, ← e, ← is, cut-field rest last u f′ a′ q, three)
+      (sym (many-fields w (take u rest) (take v last) c d) ∙ many-fields w (take u rest) last [] [])
+
+  pub line-read : (n : ℕ) (mid : List ℕ) (r : Line)
+      → n ≡ countOf (ltb t (length l)) (ltb u (length rest)) (ltb v (length last))
+      → mid ≡ take u rest
+      → ReadAs mid (length l - length rest) (content w (behind n mid last)) r
+      → LineIs l r
+  line-read n mid r c m p =
+      let size : length mid ≡ u = ap length m ∙ lib.Seq.length-take-le u rest (f′ .inside) in
+      let here : FieldAt l mid (length l - length rest) = record {
+        is = rw (← tail-drop l rest t a, size) (sym m);
+        inside = omega (arith, size, f′ .inside, tail-short l rest t a);
+      } in
+      let same : parse l ≡ content w (behind n mid last) = behind-is (ltb t (length l)) (ltb u (length rest)) (ltb v (length last)) refl refl refl ∙ rw (c, m) refl in
+      subst (λ (x : spec.Line). Meant l x r) (sym same) (p .is l here)

@@ -16,7 +16,11 @@ unfolding parts firstAt onto
 parts-cut c e [] h = absurd (omega arith)
 parts-cut c e (b ∷ r) h = go (eqb b c) refl (parts-cut c e r) h
   where
-    go : (t : Bool) → eqb b c ≡ t → (firstAt c r < length r → parts c e r ≡ take (firstAt c r) r ∷ parts c e (drop (suc (firstAt c r)) r)) → pick t zero (suc (firstAt c r)) < suc (length r) → pick t ([] ∷ parts c e r) (onto b (parts c e r)) ≡ take (pick t zero (suc (firstAt c r))) (b ∷ r) ∷ parts c e (drop (suc (pick t zero (suc (firstAt c r)))) (b ∷ r))
+    go : (t : Bool)
+        → eqb b c ≡ t
+        → (firstAt c r < length r → parts c e r ≡ take (firstAt c r) r ∷ parts c e (drop (suc (firstAt c r)) r))
+        → pick t zero (suc (firstAt c r)) < suc (length r)
+        → pick t ([] ∷ parts c e r) (onto b (parts c e r)) ≡ take (pick t zero (suc (firstAt c r))) (b ∷ r) ∷ parts c e (drop (suc (pick t zero (suc (firstAt c r)))) (b ∷ r))
     go true q ih h = refl
     go false q ih h = rw (ih (omega arith)) refl
 

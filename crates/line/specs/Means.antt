@@ -2,88 +2,76 @@
 use mathlib.Core.Bool.{Bool, true, false}
 use mathlib.Core.List.{List, [], _∷_}
 use mathlib.Core.Path.{_≡_}
-use Prim.Native.Nat.{ℕ, _+_, _^_, _≤_}
-use lib.Dec.{leb, ltb, eqb}
+use Prim.Native.Nat.{ℕ, zero, suc, _+_, _≤_, _<_}
 use lib.ListN.{length, take, drop}
-use Rattle.terms.specs.Limits.{signals}
-use Rattle.terms.specs.Choice.{pick}
-use Rattle.number.specs.Number.{decimalOf, hexOf}
-use Rattle.number.specs.declared.Number.{Number}
-use Rattle.number.specs.declared.Number.the-variants.{Value, Wrong}
-use Rattle.line.specs.Line.{bad, rule, wrong-rule, node, wrong-node, step, wrong-step, ruleKind}
 use Rattle.line.specs.Line as spec
-use Rattle.line.specs.declared.word.Word.{Word}
-use Rattle.line.specs.declared.word.Word.the-variants as word
+use Rattle.line.specs.declared.line.Sort.{Sort}
+use Rattle.line.specs.declared.line.Content.{Content}
+use Rattle.line.specs.declared.line.Content.the-variants.{Rule, Node, Step}
 use Rattle.line.specs.declared.line.Line.{Line}
-use Rattle.line.specs.declared.line.Line.the-variants.{Bad, Rule, WrongRule, Node, WrongNode, Step, WrongStep}
+use Rattle.line.specs.declared.line.Line.the-variants.{Bad, Wrong, Right}
+
+abbrev pub held : List ℕ → Content → spec.Content
+held l (Rule start len kind) = spec.rule (take len (drop start l)) kind
+held l (Node op num) = spec.node op num
+held l (Step s w) = spec.step s w
+
+-- its sort, which no text changes
+abbrev pub sortIn : Content → Sort
+sortIn c = spec.sortOf (held [] c)
 
 unfoldable pub means : List ℕ → Line → spec.Line
-means l Bad = bad
-means l (Rule start len kind) = rule (take len (drop start l)) kind
-means l WrongRule = wrong-rule
-means l (Node op num) = node op num
-means l WrongNode = wrong-node
-means l (Step s w) = step s w
-means l WrongStep = wrong-step
+means l Bad = spec.bad
+means l (Wrong s f) = spec.wrong s f
+means l (Right c) = spec.right (held l c)
 
--- a rule's label lies within the line
+-- a rule's label lies within n bytes
+abbrev pub labelIn : ℕ → Content → Type 0
+labelIn n (Rule start len kind) = start + len ≤ n
+labelIn n (Node op num) = Unit
+labelIn n (Step s w) = Unit
+
 abbrev pub inLine : ℕ → Line → Type 0
 inLine n Bad = Unit
-inLine n (Rule start len kind) = start + len ≤ n
-inLine n WrongRule = Unit
-inLine n (Node op num) = Unit
-inLine n WrongNode = Unit
-inLine n (Step s w) = Unit
-inLine n WrongStep = Unit
+inLine n (Wrong s f) = Unit
+inLine n (Right c) = labelIn n c
 
--- what reading a line answers
-pub record LineIs (l : List ℕ) (r : Line) : Type 0 where
-  pub holds : means l r ≡ spec.parse l
+pub record Meant (l : List ℕ) (p : spec.Line) (r : Line) : Type 0 where
+  pub holds : means l r ≡ p
   pub inside : inLine (length l) r
 
--- ---- the answers of the code for a line of one, two and three fields
-unfoldable pub aloneOf : Word → Line
-aloneOf (word.Atom op) = Bad
-aloneOf (word.Plain op) = Node op 0
-aloneOf (word.Bounded op) = Bad
-aloneOf word.Rule = Bad
-aloneOf word.Step = Bad
-aloneOf word.Unknown = Bad
+-- what reading a line answers
+abbrev pub LineIs : List ℕ → Line → Type 0
+LineIs l r = Meant l (spec.parse l) r
 
-abbrev pub atomBy : ℕ → Number → Line
-atomBy op Wrong = WrongNode
-atomBy op (Value n) = pick (ltb n signals) (Node op n) WrongNode
+-- an answer that names no place
+pub record Anywhere (p : spec.Line) (r : Line) : Type 0 where
+  pub is : (l : List ℕ) → Meant l p r
 
-unfoldable pub atomOf : ℕ → List ℕ → Line
-atomOf op f = atomBy op (decimalOf f)
+-- f stands in a line from a place on
+pub record FieldAt (l f : List ℕ) (start : ℕ) : Type 0 where
+  pub is : take (length f) (drop start l) ≡ f
+  pub inside : start + length f ≤ length l
 
-abbrev pub boundBy : ℕ → Number → Line
-boundBy op Wrong = WrongNode
-boundBy op (Value n) = Node op n
+-- the answer for a line in which f stands there
+pub record ReadAs (f : List ℕ) (start : ℕ) (p : spec.Line) (r : Line) : Type 0 where
+  pub is : (l : List ℕ) → FieldAt l f start → Meant l p r
 
-unfoldable pub boundOf : ℕ → List ℕ → Line
-boundOf op f = boundBy op (decimalOf f)
+-- n fields behind a word, of which the first two are told
+abbrev pub behind : ℕ → List ℕ → List ℕ → List (List ℕ)
+behind zero f g = []
+behind (suc zero) f g = f ∷ []
+behind (suc (suc zero)) f g = f ∷ g ∷ []
+behind (suc (suc (suc n))) f g = f ∷ g ∷ [] ∷ []
 
-unfoldable pub pairOf : Word → List ℕ → Line
-pairOf (word.Atom op) f = atomOf op f
-pairOf (word.Plain op) f = Bad
-pairOf (word.Bounded op) f = boundOf op f
-pairOf word.Rule f = Bad
-pairOf word.Step f = Bad
-pairOf word.Unknown f = Bad
+-- what stands past the tab at t, nothing where there is none
+pub record Tail (l : List ℕ) (t : ℕ) (r : List ℕ) : Type 0 where
+  pub cut : t < length l → r ≡ drop (t + 1) l
+  pub none : length l ≤ t → r ≡ []
 
-abbrev pub stepBy : Number → Number → Line
-stepBy Wrong t = WrongStep
-stepBy (Value s) Wrong = WrongStep
-stepBy (Value s) (Value w) = pick (ltb s (2 ^ 63)) (Step s w) WrongStep
-
-unfoldable pub stepOf : List ℕ → List ℕ → Line
-stepOf s t = stepBy (decimalOf s) (hexOf t)
-
-unfoldable pub tripleOf : Word → List ℕ → List ℕ → ℕ → Line
-tripleOf (word.Atom op) f g start = Bad
-tripleOf (word.Plain op) f g start = Bad
-tripleOf (word.Bounded op) f g start = Bad
-tripleOf word.Rule f g start = pick (eqb (ruleKind f g) 2) WrongRule (Rule start (length f) (ruleKind f g))
-tripleOf word.Step f g start = stepOf f g
-tripleOf word.Unknown f g start = Bad
+-- how many fields stand behind a word: whether a tab ends it, the field behind it, and the next
+abbrev pub countOf : Bool → Bool → Bool → ℕ
+countOf false b c = 0
+countOf true false c = 1
+countOf true true false = 2
+countOf true true true = 3

@@ -1,4 +1,4 @@
-// What one line holds: a rule's head, a node, a step, each right or wrong, or no line of a book.
+// What one line holds, or what is wrong about it, read without any state.
 use crate::text::find;
 use crate::text::past;
 use crate::text::same;
@@ -14,18 +14,61 @@ use terms::kind::PROPERTY;
 use terms::limit::SIGNALS;
 use terms::limit::STEPS;
 ghost use mathlib.Core.Path.{_≡_};
-ghost use Rattle.line.specs.Line.{isLabel, kindOf, ruleKind};
-ghost use Rattle.line.specs.Means.{LineIs, aloneOf, atomOf, boundOf, pairOf, stepOf, tripleOf};
+ghost use Prim.Native.Nat.{_≤_};
+ghost use lib.ListN.{length};
+ghost use Rattle.number.specs.Number.{decimalOf, hexOf};
+ghost use Rattle.line.specs.Line.{isLabel, kindOf, ruleKind, atomLine, boundLine, stepLine, content, flawNumber};
+ghost use Rattle.line.specs.Means.{LineIs, sortIn, behind, Tail, countOf, Anywhere, ReadAs};
 
-// A rule's label is `len` bytes from `start` of the line on.
+// A line's sort: where it may stand and which limits it has.
+pub enum Sort {
+    Rule,
+    Node,
+    Step,
+}
+
+// What is wrong about a line's fields: a label or a kind, a number.
+pub enum Flaw {
+    Label,
+    Number,
+}
+
+// What a right line holds; a rule's label is `len` bytes from `start` of the line on.
+pub enum Content {
+    Rule { start: usize, len: usize, kind: u8 },
+    Node { op: u8, num: u64 },
+    Step { step: u64, truths: u64 },
+}
+
+// Bad: the word is unknown or its field count wrong.
 pub enum Line {
     Bad,
-    Rule { start: usize, len: usize, kind: u8 },
-    WrongRule,
-    Node { op: u8, num: u64 },
-    WrongNode,
-    Step { step: u64, truths: u64 },
-    WrongStep,
+    Wrong { sort: Sort, flaw: Flaw },
+    Right(Content),
+}
+
+// Document 01's number of a flaw.
+pub fn flaw_number(f: Flaw) -> u8
+    ensures { λ r. ⌜ r ≡ flawNumber f ⌝ }
+{
+    match f {
+        Flaw::Label => 7,
+        Flaw::Number => 8,
+    }
+}
+
+pub fn sort_of(c: Content) -> Sort
+    ensures { λ r. ⌜ r ≡ sortIn c ⌝ }
+{
+    match c {
+        Content::Rule {
+            start: _,
+            len: _,
+            kind: _,
+        } => Sort::Rule,
+        Content::Node { op: _, num: _ } => Sort::Node,
+        Content::Step { step: _, truths: _ } => Sort::Step,
+    }
 }
 
 // Whether the bytes are a label.
@@ -75,89 +118,142 @@ fn rule_kind(label: &[u8], k: &[u8]) -> u8
     KINDS
 }
 
-// A line of one field.
-fn alone(w: Word) -> Line
-    ensures { λ r. ⌜ r ≡ aloneOf w ⌝ }
-{
-    match w {
-        Word::Plain(op) => Line::Node { op, num: 0 },
-        _ => Line::Bad,
-    }
-}
-
 // An atom's line: its signal is at most 63.
 fn atom(op: u8, f: &[u8]) -> Line
-    ensures { λ r. ⌜ r ≡ atomOf op (now (f .entry)) ⌝ }
+    ensures { λ r. ⌜ Anywhere (atomLine op (decimalOf (now (f .entry)))) r ⌝ }
 {
     let n = decimal(f);
     let Number::Value(v) = n else {
-        return Line::WrongNode;
+        return Line::Wrong {
+            sort: Sort::Node,
+            flaw: Flaw::Number,
+        };
     };
     if v < SIGNALS {
-        return Line::Node { op, num: v };
+        return Line::Right(Content::Node { op, num: v });
     }
-    Line::WrongNode
+    Line::Wrong {
+        sort: Sort::Node,
+        flaw: Flaw::Number,
+    }
 }
 
 // A node's line with a bound.
 fn bound(op: u8, f: &[u8]) -> Line
-    ensures { λ r. ⌜ r ≡ boundOf op (now (f .entry)) ⌝ }
+    ensures { λ r. ⌜ Anywhere (boundLine op (decimalOf (now (f .entry)))) r ⌝ }
 {
     let n = decimal(f);
     let Number::Value(v) = n else {
-        return Line::WrongNode;
+        return Line::Wrong {
+            sort: Sort::Node,
+            flaw: Flaw::Number,
+        };
     };
-    Line::Node { op, num: v }
-}
-
-// A line of two fields.
-fn pair(w: Word, f: &[u8]) -> Line
-    ensures { λ r. ⌜ r ≡ pairOf w (now (f .entry)) ⌝ }
-{
-    match w {
-        Word::Atom(op) => atom(op, f),
-        Word::Bounded(op) => bound(op, f),
-        _ => Line::Bad,
-    }
+    Line::Right(Content::Node { op, num: v })
 }
 
 // A step's line: its number is below 2^63.
 fn step(s: &[u8], t: &[u8]) -> Line
-    ensures { λ r. ⌜ r ≡ stepOf (now (s .entry)) (now (t .entry)) ⌝ }
+    ensures { λ r. ⌜ Anywhere (stepLine (decimalOf (now (s .entry))) (hexOf (now (t .entry)))) r ⌝ }
 {
     let n = decimal(s);
     let Number::Value(v) = n else {
-        return Line::WrongStep;
+        return Line::Wrong {
+            sort: Sort::Step,
+            flaw: Flaw::Number,
+        };
     };
     if STEPS <= v {
-        return Line::WrongStep;
+        return Line::Wrong {
+            sort: Sort::Step,
+            flaw: Flaw::Number,
+        };
     }
     let m = hex(t);
     let Number::Value(u) = m else {
-        return Line::WrongStep;
+        return Line::Wrong {
+            sort: Sort::Step,
+            flaw: Flaw::Number,
+        };
     };
-    Line::Step { step: v, truths: u }
+    Line::Right(Content::Step { step: v, truths: u })
 }
 
-// A line of three fields; the second starts at `start` of the line.
-fn triple(w: Word, f: &[u8], g: &[u8], start: usize) -> Line
-    ensures { λ r. ⌜ r ≡ tripleOf w (now (f .entry)) (now (g .entry)) start ⌝ }
+// A line of `n` fields behind its word: f, which starts at `start` of the line, g, and others.
+fn by_word(w: Word, n: usize, f: &[u8], g: &[u8], start: usize) -> Line
+    ensures { λ r. ⌜ ReadAs (now (f .entry)) start (content w (behind n (now (f .entry)) (now (g .entry)))) r ⌝ }
 {
     match w {
+        Word::Atom(op) => {
+            if n != 1 {
+                return Line::Bad;
+            }
+            atom(op, f)
+        }
+        Word::Plain(op) => {
+            if n != 0 {
+                return Line::Bad;
+            }
+            Line::Right(Content::Node { op, num: 0 })
+        }
+        Word::Bounded(op) => {
+            if n != 1 {
+                return Line::Bad;
+            }
+            bound(op, f)
+        }
         Word::Rule => {
+            if n != 2 {
+                return Line::Bad;
+            }
             let k = rule_kind(f, g);
             if k == KINDS {
-                return Line::WrongRule;
+                return Line::Wrong {
+                    sort: Sort::Rule,
+                    flaw: Flaw::Label,
+                };
             }
-            Line::Rule {
+            Line::Right(Content::Rule {
                 start,
                 len: f.len(),
                 kind: k,
-            }
+            })
         }
-        Word::Step => step(f, g),
-        _ => Line::Bad,
+        Word::Step => {
+            if n != 2 {
+                return Line::Bad;
+            }
+            step(f, g)
+        }
+        Word::Unknown => Line::Bad,
     }
+}
+
+// What stands past the tab at t; nothing where there is none.
+fn behind_tab(l: &[u8], t: usize) -> &[u8]
+    requires { ⌜ t ≤ length (now l) ⌝ }
+    ensures { λ r. ⌜ Tail (now (l .entry)) t (now r) ⌝ }
+{
+    if t < l.len() {
+        return past(l, t + 1);
+    }
+    past(l, t)
+}
+
+// How many fields stand behind a word, at most three of them told apart: whether a tab ends it, the field behind it, and the next.
+fn count(first: bool, second: bool, third: bool) -> usize
+    ensures { λ r. ⌜ r ≡ countOf first second third ⌝ }
+{
+    if first {
+        if second {
+            if third {
+                return 3;
+            }
+            return 2;
+        }
+        return 1;
+    }
+    0
 }
 
 // What a line holds.
@@ -166,18 +262,10 @@ pub fn read_line(l: &[u8]) -> Line
 {
     let t = find(l, 9);
     let w = look_up(upto(l, t));
-    if t == l.len() {
-        return alone(w);
-    }
-    let rest = past(l, t + 1);
+    let rest = behind_tab(l, t);
     let u = find(rest, 9);
-    if u == rest.len() {
-        return pair(w, rest);
-    }
-    let last = past(rest, u + 1);
+    let last = behind_tab(rest, u);
     let v = find(last, 9);
-    if v < last.len() {
-        return Line::Bad;
-    }
-    triple(w, upto(rest, u), last, t + 1)
+    let n = count(t < l.len(), u < rest.len(), v < last.len());
+    by_word(w, n, upto(rest, u), last, l.len() - rest.len())
 }

@@ -14,7 +14,8 @@ use terms::op::UNTIL;
 use terms::op::VAR;
 use terms::op::WITHIN;
 ghost use mathlib.Core.Path.{_≡_};
-ghost use Rattle.line.specs.Word.{wordOf, lookup, fromUnary, fromBounded, fromBinary, fromLines};
+ghost use lib.ListN.{drop};
+ghost use Rattle.line.specs.Word.{vocabulary, lookup, wordOf};
 
 // A word's sort, with its number in a formula table where it is a node's.
 pub enum Word {
@@ -36,9 +37,9 @@ pub fn look_up(f: &[u8]) -> Word
     word_of(f)
 }
 
-// All words in the order of the list.
+// All words in the order of the vocabulary.
 fn word_of(f: &[u8]) -> Word
-    ensures { λ r. ⌜ r ≡ wordOf (now (f .entry)) ⌝ }
+    ensures { λ r. ⌜ r ≡ lookup vocabulary (now (f .entry)) ⌝ }
 {
     if same(f, b"var") {
         return Word::Atom(VAR);
@@ -49,48 +50,41 @@ fn word_of(f: &[u8]) -> Word
     if same(f, b"out") {
         return Word::Atom(OUT);
     }
-    unary(f)
-}
-
-// The words with one operand, and those behind them in the list.
-fn unary(f: &[u8]) -> Word
-    ensures { λ r. ⌜ r ≡ lookup fromUnary (now (f .entry)) ⌝ }
-{
     if same(f, b"not") {
         return Word::Plain(NOT);
     }
     if same(f, b"next") {
         return Word::Plain(NEXT);
     }
+    from_always(f)
+}
+
+// The words from `always` on.
+fn from_always(f: &[u8]) -> Word
+    ensures { λ r. ⌜ r ≡ lookup (drop 5 vocabulary) (now (f .entry)) ⌝ }
+{
     if same(f, b"always") {
         return Word::Plain(ALWAYS);
     }
     if same(f, b"eventually") {
         return Word::Plain(EVENTUALLY);
     }
-    bounded(f)
-}
-
-// The words with a bound, and those behind them.
-fn bounded(f: &[u8]) -> Word
-    ensures { λ r. ⌜ r ≡ lookup fromBounded (now (f .entry)) ⌝ }
-{
     if same(f, b"always-for") {
         return Word::Bounded(ALWAYS_FOR);
     }
     if same(f, b"within") {
         return Word::Bounded(WITHIN);
     }
-    binary(f)
-}
-
-// The words with two operands, and those behind them.
-fn binary(f: &[u8]) -> Word
-    ensures { λ r. ⌜ r ≡ lookup fromBinary (now (f .entry)) ⌝ }
-{
     if same(f, b"and") {
         return Word::Plain(AND);
     }
+    from_or(f)
+}
+
+// The words from `or` on.
+fn from_or(f: &[u8]) -> Word
+    ensures { λ r. ⌜ r ≡ lookup (drop 10 vocabulary) (now (f .entry)) ⌝ }
+{
     if same(f, b"or") {
         return Word::Plain(OR);
     }
@@ -100,13 +94,6 @@ fn binary(f: &[u8]) -> Word
     if same(f, b"until") {
         return Word::Plain(UNTIL);
     }
-    other(f)
-}
-
-// The words of lines that are no nodes.
-fn other(f: &[u8]) -> Word
-    ensures { λ r. ⌜ r ≡ lookup fromLines (now (f .entry)) ⌝ }
-{
     if same(f, b"rule") {
         return Word::Rule;
     }

@@ -14,7 +14,8 @@ use Rattle.formula.specs.Formula.{Formula, var, not, next, always, eventually, 
 use Rattle.formula.specs.Table.{nodeAt}
 use Rattle.formula.specs.Pure.{pure}
 use Rattle.liveness.specs.Split.{faults, Obligation, E, U, obligationsOf}
-use Rattle.liveness.proofs.Words.{append-nil-inv, unless-nil, both-nil}
+use Rattle.formula.proofs.Faults.{append-nil-inv, unless-nil}
+use Rattle.liveness.proofs.Words.{both-nil}
 use Rattle.split.specs.Held.{obligationCells, owedCells}
 use Rattle.split.proofs.Cells.{owed-length}
 use Rattle.text.specs.Tape.{Tape, Wrote, joined}

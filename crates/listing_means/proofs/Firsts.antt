@@ -13,7 +13,7 @@ use Rattle.meaning.specs.Alarm.{Record, Alarm, First}
 use Rattle.meaning.specs.Culprit.{Culprit}
 use Rattle.meaning.specs.Plain.{Plain}
 use Rattle.meaning.specs.Meaning.{PlainMeans}
-use Rattle.meaning.specs.State.{State, failed, culprit, fresh, step, after}
+use Rattle.meaning.specs.State.{State, failed, culprit, initialState, step, after}
 use Rattle.meaning.proofs.Steps.{first-alarm}
 use Rattle.meaning.proofs.Meaning.{report-is-first, report-of-record, culprit-unique, plain-rules}
 use Rattle.book.specs.Book.{StepLine}
@@ -41,7 +41,7 @@ module _ (m : Mon) (rec : Record) where
       ∙ ap (after m rec) (sym (y i))
 
   module _ (xs : List StepLine) (o : InOrderLines xs) (g : Begins rec xs) where
-    pub state-after : (i : ℕ) → i ≤ length xs → stateAt m (fresh m) xs i ≡ after m rec i
+    pub state-after : (i : ℕ) → i ≤ length xs → stateAt m (initialState m) xs i ≡ after m rec i
     unfolding after
     state-after i h =
         stepped 0 xs i h (λ j z. o j z ∙ sym (zero-add j)) (λ j z. ap rec (zero-add j) ∙ g j z)
@@ -64,12 +64,12 @@ module _ (R : ℕ → Rule) (n : ℕ) (xs : List StepLine) (rec : Record) (o : I
   number-is : (i : ℕ) (x : StepLine) → i < length xs → x ≡ lineAt xs i → i ≡ x .number
   number-is i x h e = sym (ap (λ (y : StepLine). y .number) e ∙ o i h)
 
-  says-at : (p : Report) → p .rule < n → p .place ≡ p .at .number → Called (R (p .rule)) (fresh (mon (R (p .rule)))) xs (p .at .number) (p .at) (p .culprit) → Says R n xs rec p
+  says-at : (p : Report) → p .rule < n → p .place ≡ p .at .number → Called (R (p .rule)) (initialState (mon (R (p .rule)))) xs (p .at .number) (p .at) (p .culprit) → Says R n xs rec p
   says-at p h i k =
       let m : Mon = mon (R (p .rule)) in
       let s : ℕ = p .at .number in
-      let before : stateAt m (fresh m) xs s ≡ after m rec s = state-after m rec xs o g s (omega (arith, k .place-there)) in
-      let then : stateAt m (fresh m) xs (suc s) ≡ after m rec (suc s) = state-after m rec xs o g (suc s) (omega (arith, k .place-there)) in
+      let before : stateAt m (initialState m) xs s ≡ after m rec s = state-after m rec xs o g s (omega (arith, k .place-there)) in
+      let then : stateAt m (initialState m) xs (suc s) ≡ after m rec (suc s) = state-after m rec xs o g (suc s) (omega (arith, k .place-there)) in
       let f : First (Alarm m rec) s = marked-first m rec s (subst (λ (st : State m). failed m st ≡ false) before (k .unfailed-before)) (subst (λ (st : State m). failed m st ≡ true) then (k .failed-after)) in
       record {
         rule-there = h;
@@ -86,19 +86,19 @@ module _ (R : ℕ → Rule) (n : ℕ) (xs : List StepLine) (rec : Record) (o : I
   says p h =
       let (l, k) = called R n (freshStates R) xs p h in
       let i : p .place ≡ p .at .number = number-is (p .place) (p .at) (k .place-there) (k .line-is) in
-      says-at p l i (subst (λ (j : ℕ). Called (R (p .rule)) (fresh (mon (R (p .rule)))) xs j (p .at) (p .culprit)) i k)
+      says-at p l i (subst (λ (j : ℕ). Called (R (p .rule)) (initialState (mon (R (p .rule)))) xs j (p .at) (p .culprit)) i k)
 
   pub said : (p : Report) → Says R n xs rec p → p ∈ bookReports R n xs
   said p k =
       let m : Mon = mon (R (p .rule)) in
       let s : ℕ = p .at .number in
-      let before : stateAt m (fresh m) xs s ≡ after m rec s = state-after m rec xs o g s (omega (arith, k .step-there)) in
-      let then : stateAt m (fresh m) xs (suc s) ≡ after m rec (suc s) = state-after m rec xs o g (suc s) (omega (arith, k .step-there)) in
+      let before : stateAt m (initialState m) xs s ≡ after m rec s = state-after m rec xs o g s (omega (arith, k .step-there)) in
+      let then : stateAt m (initialState m) xs (suc s) ≡ after m rec (suc s) = state-after m rec xs o g (suc s) (omega (arith, k .step-there)) in
       let f : First (Alarm m rec) s = record { here = k .alarm-here; not-before = λ u z a. k .none-earlier u (omega arith) a } in
       let (b, a) = first-marked m rec s f in
       listed R n (freshStates R) xs p (
         k .rule-there,
-        subst (λ (j : ℕ). Called (R (p .rule)) (fresh m) xs j (p .at) (p .culprit)) (sym (k .place-is)) (record {
+        subst (λ (j : ℕ). Called (R (p .rule)) (initialState m) xs j (p .at) (p .culprit)) (sym (k .place-is)) (record {
           rule-compiles = k .rule-compiles;
           place-there = k .step-there;
           line-is = k .line-is;

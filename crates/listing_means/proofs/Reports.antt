@@ -8,7 +8,7 @@ use Prim.Native.Nat.{ℕ, _<_}
 use lib.ListN.{length}
 use Rattle.meaning.specs.Alarm.{Record, Alarm}
 use Rattle.meaning.specs.Plain.{Plain}
-use Rattle.meaning.specs.State.{fresh}
+use Rattle.meaning.specs.State.{initialState}
 use Rattle.book.specs.Book.{Book, StepLine, accepted, read}
 use Rattle.listing_rules.specs.Rules.{Rule, compiles, mon}
 use Rattle.listing_reports.specs.Reports.{freshStates, Report, bookReports}
@@ -43,7 +43,7 @@ module _ (R : ℕ → Rule) (n : ℕ) (xs : List StepLine) where
   -- one call a line: the rule's own monitor, from its fresh state
   pub report-called :
       (p : Report)
-      → (p ∈ bookReports R n xs) ↔ ((p .rule < n) × Called (R (p .rule)) (fresh (mon (R (p .rule)))) xs (p .place) (p .at) (p .culprit))
+      → (p ∈ bookReports R n xs) ↔ ((p .rule < n) × Called (R (p .rule)) (initialState (mon (R (p .rule)))) xs (p .place) (p .at) (p .culprit))
   report-called p = calling.called-iff R n (freshStates R) xs p
 
   -- as in a book with that rule alone

@@ -18,6 +18,7 @@ use Rattle.formula.specs.Table.{nodeAt, Rule, Placed, ruleOf}
 use Rattle.formula.specs.Pure.{pure}
 use Rattle.formula.proofs.Cases.{below-or}
 use Rattle.formula.proofs.Trees.{some-inj, none-some, prefix-length, spells-run, size-pos}
+use Rattle.formula.proofs.Nodes.{known-at}
 use Rattle.formula.proofs.Rules.{rule-inv}
 use Rattle.monitor.specs.declared.range.AnchorRange.{AnchorRange}
 use Rattle.monitor.specs.declared.node.SignalExpr.{SignalExpr}
@@ -27,8 +28,8 @@ use Rattle.monitor.specs.declared.node.MonNode.the-variants.{RangeCheck, Delaye
 use Rattle.monitor.specs.declared.node.Row.{Row}
 use Rattle.monitor.specs.declared.node.Row.the-variants.{Node, Unknown}
 use Rattle.monitor.specs.Mon.{Signal, always-true, at, Check, range-check, delayed-check, obligation, Mon, check, And, Or, count, exprOf, nodeOf}
-use Rattle.monitor.specs.Table.{rowOf, subAt, keepPure, keepSignal, signalOf, Never, Join, join-and, join-or, Cell, checked, cellOf, cellBy, cells, fromTree, compiledOf}
-use Rattle.monitor.proofs.Parts.{FormulaPart, part-at, no-part}
+use Rattle.monitor.specs.Table.{rowOf, signalOf, Never, Join, join-and, join-or, Cell, checked, cellOf, cellBy, cells, fromTree, compiledOf}
+use Rattle.monitor.proofs.Signals.{signal-inv}
 use Rattle.monitor.proofs.Holds.{HoldsTree, held-inv}
 use Rattle.number.specs.Digits.{decimal}
 use Rattle.text.specs.Tape.{Tape, Wrote, joined}
@@ -44,26 +45,11 @@ KnownToken (one-of o) = Unit
 KnownToken (two-of o) = Unit
 KnownToken unknown = ⊥
 
-known-by : {L O T : Type 0} (t u : Token L O T) → t ≡ u → KnownToken u → KnownToken t
-known-by t u e k = subst KnownToken (sym e) k
-
-known-at : {L O T : Type 0} (tok : ℕ → Token L O T) (i : ℕ) (t : Tree L O T) (k : ℕ) → Spells tok i t → k < size t → KnownToken (tok (i + k))
-unfolding Spells size
-known-at tok i (leaf a) zero s h = known-by (tok (i + 0)) (leaf-of a) (ap tok (add-zero i) ∙ s) tt
-known-at tok i (leaf a) (suc k) s h = absurd (omega arith)
-known-at tok i (one o t) zero s h = known-by (tok (i + 0)) (one-of o) (ap tok (add-zero i) ∙ s .0) tt
-known-at tok i (one o t) (suc k) s h =
-    let e : i + 1 + k ≡ i + suc k = omega arith in
-    subst (λ (n : ℕ). KnownToken (tok n)) e (known-at tok (i + 1) t k (s .1) (omega arith))
-known-at tok i (two o l r) zero s h = known-by (tok (i + 0)) (two-of o) (ap tok (add-zero i) ∙ s .0) tt
-known-at tok i (two o l r) (suc k) s h = ⊎-elim
-    (λ (q : k < size l).
-    let e : i + 1 + k ≡ i + suc k = omega arith in
-    subst (λ (n : ℕ). KnownToken (tok n)) e (known-at tok (i + 1) l k (s .1) q))
-    (λ (q : size l ≤ k).
-    let e : i + 1 + size l + (k - size l) ≡ i + suc k = omega arith in
-    subst (λ (n : ℕ). KnownToken (tok n)) e (known-at tok (i + 1 + size l) r (k - size l) (s .2) (omega arith)))
-    (below-or k (size l))
+known-token : {L O T : Type 0} (t : Token L O T) → (t ≡ unknown → ⊥) → KnownToken t
+known-token (leaf-of a) h = tt
+known-token (one-of o) h = tt
+known-token (two-of o) h = tt
+known-token unknown h = h refl
 
 -- ---- the signal that a row names
 pub record Naming (ops nums : List ℕ) (e : SignalExpr) (s : Signal) : Type 0 where
@@ -71,44 +57,21 @@ pub record Naming (ops nums : List ℕ) (e : SignalExpr) (s : Signal) : Type 0 w
   pub stands : SignalStands ops nums s
   pub ready : SignalReady ops nums e
 
-pure-inv : (p : ℕ) (g : Formula) (s : Signal) → keepPure p (some g) ≡ some s → (pure g ≡ true) × (s ≡ at p g)
-pure-inv p g s e = go (pure g) refl
-  where
-    go : (b : Bool) → pure g ≡ b → (pure g ≡ true) × (s ≡ at p g)
-    go true q = (q, sym (some-inj (rw q at e)))
-    go false q = none-some (rw q at e)
-
 module _ (ops nums : List ℕ) (first n : ℕ) (f : Formula) (u : Rule ops nums first n f) where
-  part-named : (p : ℕ) (s : Signal) (o : Option Formula) → first ≤ p → subAt f (p - first) ≡ o → keepPure p o ≡ some s → Naming ops nums (At p) s
-  part-named p s none h q e = none-some e
-  part-named p s (some g) h q e = ⊎-elim
-      (λ (k : p - first < size f).
-      let x : FormulaPart (nodeAt ops nums) first f (p - first) = part-at (nodeAt ops nums) first f (p - first) (u .spells) k in
-      let y : x .part ≡ g = some-inj (sym (x .is) ∙ q) in
-      let z : first + (p - first) ≡ p = omega arith in
-      let t : Spells (nodeAt ops nums) p g = subst (λ (m : ℕ). Spells (nodeAt ops nums) m g) z (subst (λ (c : Formula). Spells (nodeAt ops nums) (first + (p - first)) c) y (x .spells)) in
-      let c : p - first + size g ≤ size f = subst (λ (c : Formula). p - first + size c ≤ size f) y (x .inside) in
-      let (a, b) = pure-inv p g s e in
-      record {
-        is = sym (ap exprOf b);
-        stands = subst (SignalStands ops nums) (sym b) t;
-        ready = record {
-          place = record { formula = g; spells = t; in-ops = omega (arith, u .in-ops, u .covers); in-nums = omega (arith, u .in-nums, u .covers) };
-          is-pure = a;
-        };
-      })
-      (λ (k : size f ≤ p - first). none-some (sym (no-part f (p - first) k) ∙ q))
-      (below-or (p - first) (size f))
-
   named : (e : SignalExpr) (s : Signal) → signalOf f first e ≡ some s → Naming ops nums e s
   named True s h =
       let z : always-true ≡ s = some-inj h in
       record { is = ap exprOf z; stands = subst (SignalStands ops nums) z tt; ready = tt }
-  named (At p) s h = go (leb first p) refl
-    where
-      go : (b : Bool) → leb first p ≡ b → Naming ops nums (At p) s
-      go true q = part-named p s (subAt f (p - first)) (leb-true first p q) refl (rw q at h)
-      go false q = none-some (rw q at h)
+  named (At p) s h =
+      let (g, e, x) = signal-inv ops nums first n f u p s h in
+      record {
+        is = sym (ap exprOf e);
+        stands = subst (SignalStands ops nums) (sym e) (x .spells);
+        ready = record {
+          place = record { formula = g; spells = x .spells; in-ops = x .in-ops; in-nums = x .in-nums };
+          is-pure = x .is-pure;
+        };
+      }
 
   -- ---- the line of a row
   row-line : (k : ℕ) (m : MonNode) (b c : Tape) → KnownToken (cellOf f first (Node m)) → NodeWrote ops nums k m b c → Wrote b (cellLine k (cellOf f first (Node m))) c
@@ -258,7 +221,7 @@ module _ (ops nums nodes : List ℕ) (nfirst ncount : ℕ) where
     known-row first n m e =
         let (f, t, x, y) = held-inv ops nums first n nodes nfirst ncount m e in
         let c = is-cell first n f (x .rule) in
-        (f, rule-inv ops nums first n f (x .rule), c, subst KnownToken c (known-at (cells ops nums first n nodes) nfirst t k (x .spells) (omega (arith, x .covers))))
+        (f, rule-inv ops nums first n f (x .rule), c, subst KnownToken c (known-token _ (known-at (cells ops nums first n nodes) nfirst t k (x .spells) (omega (arith, x .covers)))))
 
     pub noded-unknown : (a b : Tape) → row ≡ Unknown → NodesWrote ops nums nodes nfirst ncount a b
     noded-unknown a b q = record {

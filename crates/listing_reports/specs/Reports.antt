@@ -7,7 +7,7 @@ use Prim.Native.Nat.{ℕ, zero, suc}
 use lib.IntN.{ℤ}
 use lib.ListN.{length}
 use Rattle.terms.specs.Choice.{pick}
-use Rattle.meaning.specs.State.{State, Stepped, fresh, step, culprit, newlyFailed}
+use Rattle.meaning.specs.State.{State, Stepped, initialState, step, culprit, newlyFailed}
 use Rattle.book.specs.Book.{StepLine}
 use Rattle.listing_rules.specs.Rules.{Rule, compiles, mon}
 
@@ -16,7 +16,7 @@ abbrev pub States : (ℕ → Rule) → Type 0
 States R = (r : ℕ) → State (mon (R r))
 
 abbrev pub freshStates : (R : ℕ → Rule) → States R
-freshStates R r = fresh (mon (R r))
+freshStates R r = initialState (mon (R r))
 
 -- the states after a step line
 abbrev pub nextStates : (R : ℕ → Rule) → States R → StepLine → States R

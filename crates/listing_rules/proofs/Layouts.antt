@@ -35,16 +35,16 @@ module _ {ops nums kinds firsts counts nodes nfirsts ncounts refusals : List ℕ
   }
 
   module _ (starts starts′ bits bits′ : List ℕ) (in-starts : 64 ≤ length starts) (in-bits : 64 ≤ length bits)
-      (a : Arranged n (isZero kinds) (isZero refusals) (partBits nodes nfirsts ncounts) starts starts′ bits bits′) where
+      (a : Arranged 0 n (isZero kinds) (isZero refusals) (partBits nodes nfirsts ncounts) starts starts′ bits bits′) where
     placed : Placed R n starts′ bits′
     unfolding firstBitOf
     placed = record {
-      in-starts = omega (arith, ap length (a .firsts-are), length-sets starts 0 (listed (kept (isZero refusals) (firstBit n (isZero kinds) (isZero refusals) (partBits nodes nfirsts ncounts)) starts) n));
+      in-starts = omega (arith, ap length (a .firsts-are), length-sets starts 0 (listed (kept (isZero refusals) (firstBit 0 n (isZero kinds) (isZero refusals) (partBits nodes nfirsts ncounts)) starts) n));
       in-bits = omega (arith, ap length (a .bits-are), length-sets bits 0 (listed (kept (isZero refusals) (partBits nodes nfirsts ncounts) bits) n));
       start = λ r h c.
           ap (λ (l : List ℕ). getD l r 0) (a .firsts-are)
-          ∙ filled-value (isZero refusals) (firstBit n (isZero kinds) (isZero refusals) (partBits nodes nfirsts ncounts)) starts n r h (omega (arith, w .few)) (refusal-zero t r h ∙ c)
-          ∙ same-first n (isZero kinds) (λ q. property (R q)) (isZero refusals) (λ q. compiles (R q)) (partBits nodes nfirsts ncounts) (λ q. bitsOf (R q)) kind-same (refusal-zero t) bits-same r h;
+          ∙ filled-value (isZero refusals) (firstBit 0 n (isZero kinds) (isZero refusals) (partBits nodes nfirsts ncounts)) starts n r h (omega (arith, w .few)) (refusal-zero t r h ∙ c)
+          ∙ same-first n (isZero kinds) (λ q. property (R q)) (isZero refusals) (λ q. compiles (R q)) (partBits nodes nfirsts ncounts) (λ q. bitsOf (R q)) kind-same (refusal-zero t) bits-same 0 r h;
       bit = λ r h c.
           ap (λ (l : List ℕ). getD l r 0) (a .bits-are)
           ∙ filled-value (isZero refusals) (partBits nodes nfirsts ncounts) bits n r h (omega (arith, w .few)) (refusal-zero t r h ∙ c)
@@ -62,7 +62,7 @@ module _ (kinds nodes nfirsts ncounts refusals : List ℕ) (n : ℕ) (starts bit
   bits-room = omega (arith, p .held .few, p .in-bits)
 
   pub places :
-      (starts′ bits′ : List ℕ) → Arranged n (isZero kinds) (isZero refusals) (partBits nodes nfirsts ncounts) starts starts′ bits bits′
+      (starts′ bits′ : List ℕ) → Arranged 0 n (isZero kinds) (isZero refusals) (partBits nodes nfirsts ncounts) starts starts′ bits bits′
       → Places kinds nodes nfirsts ncounts refusals n starts′ bits′
   places starts′ bits′ a = record {
     is = λ ops nums firsts counts R w t. placed w t starts starts′ bits bits′ (p .in-starts) (p .in-bits) a;

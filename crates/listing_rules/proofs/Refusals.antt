@@ -9,8 +9,8 @@ use lib.Dec.{eqb}
 use lib.ListN.{getD}
 use Rattle.formula.specs.Tree.{leaf, one, two}
 use Rattle.formula.specs.Formula.{Formula, not, next, always, eventually, always-for, within, and, or, implies, until}
-use Rattle.formula.specs.Pure.{pure}
-use Rattle.monitor.specs.Compile.{when, unless, consequent, faults, ruleFaults}
+use Rattle.formula.specs.Pure.{pure, unless}
+use Rattle.monitor.specs.Compile.{when, consequent, faults, ruleFaults}
 use Rattle.plan.specs.Book.{isZero}
 use Rattle.listing_rules.specs.Rules.{Rule, isNone, firstOf, compiles, refusal}
 use Rattle.listing_rules.specs.Tabled.{Tabled}

@@ -52,7 +52,7 @@ abbrev pub bitsOf : Rule → ℕ
 bitsOf q = bits (mon q)
 
 unfoldable pub firstBitOf : (ℕ → Rule) → ℕ → ℕ → ℕ
-firstBitOf R n r = firstBit n (λ (q : ℕ). property (R q)) (λ (q : ℕ). compiles (R q)) (λ (q : ℕ). bitsOf (R q)) r
+firstBitOf R n r = firstBit 0 n (λ (q : ℕ). property (R q)) (λ (q : ℕ). compiles (R q)) (λ (q : ℕ). bitsOf (R q)) r
 
 -- ---- likeness
 -- rule q compiles and is like rule r

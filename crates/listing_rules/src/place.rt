@@ -2,7 +2,7 @@
 use plan::layout::arrange;
 ghost use Rattle.listing_rules.specs.Answers.{Placeable, Places};
 
-// Lays out the first n rules.
+// Lays out the first n rules, from bit 0.
 pub fn place_rules(
     kinds: &[u8],
     refusals: &[u64],
@@ -17,5 +17,5 @@ pub fn place_rules(
     ensures { λ u. ⌜ Places (now (kinds .entry)) (now (nodes .entry)) (now (nfirsts .entry)) (now (ncounts .entry)) (now (refusals .entry)) n
         (now (starts .exit)) (now (bits .exit)) ⌝ }
 {
-    arrange(kinds, refusals, nodes, nfirsts, ncounts, n, starts, bits);
+    arrange(kinds, refusals, nodes, nfirsts, ncounts, n, 0, starts, bits);
 }

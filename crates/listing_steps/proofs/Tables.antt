@@ -8,9 +8,9 @@ use lib.IntN.{pos}
 use lib.ListN.{getD, replicate, length-replicate, getD-replicate}
 use Rattle.monitor.specs.Mon.{Mon, count}
 use Rattle.meaning.specs.Culprit.{minus-one}
-use Rattle.meaning.specs.State.{WellShaped, fresh}
+use Rattle.meaning.specs.State.{WellShaped, initialState}
 use Rattle.meaning.proofs.Meaning.{fresh-shaped}
-use Rattle.node_step.specs.declared.state.NodeState.{NodeState}
+use Rattle.node_step.specs.declared.state.MonState.{MonState}
 use Rattle.node_step.specs.Memory.{Memory, get, Inside}
 use Rattle.stepping.specs.Walk.{Blameless, ShapedAt, readMon}
 use Rattle.stepping.specs.Fresh.{cleared}
@@ -53,7 +53,7 @@ blanks n = record {
   culprits = replicate n minus-one;
 }
 
-abbrev blank : NodeState
+abbrev blank : MonState
 blank = record { held = false; remaining = 0; failed = false; culprit = minus-one }
 
 module _ (n : ℕ) where
@@ -73,7 +73,7 @@ module _ (n : ℕ) where
     culprits = omega (arith, length-replicate n minus-one);
   }
 
-  blanks-read : (m : Mon) (k : ℕ) → k + count m ≤ n → readMon m (blanks n) k ≡ fresh m
+  blanks-read : (m : Mon) (k : ℕ) → k + count m ≤ n → readMon m (blanks n) k ≡ initialState m
   blanks-read m k h =
       read-same m (blanks n) (cleared (blanks n) n) k (λ j a b. blank-at j (omega arith) ∙ sym (clear-entry (blanks n) n blanks-inside j (omega arith)))
       ∙ fresh-reads (blanks n) n blanks-inside m k h

@@ -2,8 +2,6 @@
 --     none-exactly     `none` is the answer exactly for an assumption or a property without liveness
 --     within-is-calm   `within` is no liveness of its own
 --     numbered         the obligations of a skeleton are 0, 1, 2 and on, left to right
---     trip             document 01's trip: `(eventually var 0) or var 1` has the skeleton `|#0sv1`
---     trip-refused     `(eventually var 0) and (always var 1)` is refused with 23
 use mathlib.Core.Path.{_≡_, refl, sym, ap, ap₂, subst, _∙_}
 use mathlib.Core.Bool.{Bool, true, false}
 use mathlib.Core.List.{List, [], _∷_, _++_}
@@ -13,12 +11,11 @@ use native.Mathlib.Omega.{arith}
 use native.Mathlib.Nat.{add-zero, zero-add, suc-add, add-suc}
 use lib.ListN.{length, length-append}
 use Rattle.formula.specs.Tree.{leaf, one, two, size}
-use Rattle.formula.specs.Formula.{Formula, var, not, next, always, eventually, always-for, within, and, or, implies, until}
+use Rattle.formula.specs.Formula.{Formula, not, next, always, eventually, always-for, within, and, or, implies, until}
 use Rattle.formula.specs.Pure.{pure}
-use Rattle.formula.specs.Text.{atom}
-use Rattle.liveness.specs.Split.{live, temporal, faults, Obligation, E, Skeleton, safety, owed, Not, And, Or, Implies, skeletonOf, obligationsOf, owes, Answer, none, parts, refused, firstOr, property, splitOf}
-use Rattle.liveness.specs.Text.{skeletonText, written, number, byte}
-use Rattle.liveness.proofs.Words.{cons-nil, append-nil-inv}
+use Rattle.liveness.specs.Split.{live, faults, Obligation, E, Skeleton, safety, owed, Not, And, Or, Implies, skeletonOf, obligationsOf, owes, Answer, none, parts, firstOr, property, splitOf}
+use Rattle.formula.proofs.Faults.{append-nil-inv}
+use Rattle.liveness.proofs.Words.{temporal-some}
 
 -- ---- when there is no split to ask for
 some-answer : (xs : List ℕ) (s : Skeleton) (os : List Obligation) {B : Type 0} → firstOr xs (parts s os) ≡ none → B
@@ -62,36 +59,21 @@ unfolding counting
 counting-add k zero n = rw (zero-add, add-zero) refl
 counting-add k (suc m) n = rw suc-add (ap (k ∷_) (counting-add (k + 1) m n ∙ ap (λ (j : ℕ). counting (k + 1) m ++ counting j n) (omega arith)))
 
-none-temporal : (b : Bool) {B : Type 0} → temporal b ≡ [] → B
-none-temporal true e = cons-nil e
-none-temporal false e = cons-nil e
-
-both : (l r : Formula) (i k : ℕ) → numbers (skeletonOf l (i + 1) k) ≡ counting k (owes l (i + 1)) → numbers (skeletonOf r (i + 1 + size l) (k + owes l (i + 1))) ≡ counting (k + owes l (i + 1)) (owes r (i + 1 + size l)) → numbers (skeletonOf l (i + 1) k) ++ numbers (skeletonOf r (i + 1 + size l) (k + owes l (i + 1))) ≡ counting k (length (obligationsOf l (i + 1) ++ obligationsOf r (i + 1 + size l)))
+both : (l r : Formula) (i k : ℕ) → numbers (skeletonOf l (i + 1) k) ≡ counting k (owes l (i + 1))
+    → numbers (skeletonOf r (i + 1 + size l) (k + owes l (i + 1))) ≡ counting (k + owes l (i + 1)) (owes r (i + 1 + size l))
+    → numbers (skeletonOf l (i + 1) k) ++ numbers (skeletonOf r (i + 1 + size l) (k + owes l (i + 1))) ≡ counting k (length (obligationsOf l (i + 1) ++ obligationsOf r (i + 1 + size l)))
 both l r i k e f = ap₂ _++_ e f ∙ sym (ap (counting k) (length-append (obligationsOf l (i + 1)) (obligationsOf r (i + 1 + size l))) ∙ counting-add k (owes l (i + 1)) (owes r (i + 1 + size l)))
 
 pub numbered : (f : Formula) (i k : ℕ) → faults f ≡ [] → numbers (skeletonOf f i k) ≡ counting k (owes f i)
 unfolding numbers counting skeletonOf obligationsOf faults
 numbered (leaf a) i k e = refl
 numbered (one not f) i k e = numbered f (i + 1) k e
-numbered (one next f) i k e = none-temporal (live f) e
-numbered (one always f) i k e = none-temporal (live f) e
+numbered (one next f) i k e = temporal-some (live f) e
+numbered (one always f) i k e = temporal-some (live f) e
 numbered (one eventually f) i k e = refl
-numbered (one (always-for b) f) i k e = none-temporal (live f) e
-numbered (one (within b) f) i k e = none-temporal (live f) e
+numbered (one (always-for b) f) i k e = temporal-some (live f) e
+numbered (one (within b) f) i k e = temporal-some (live f) e
 numbered (two and l r) i k e = both l r i k (numbered l (i + 1) k (append-nil-inv (faults l) (faults r) e .0)) (numbered r (i + 1 + size l) (k + owes l (i + 1)) (append-nil-inv (faults l) (faults r) e .1))
 numbered (two or l r) i k e = both l r i k (numbered l (i + 1) k (append-nil-inv (faults l) (faults r) e .0)) (numbered r (i + 1 + size l) (k + owes l (i + 1)) (append-nil-inv (faults l) (faults r) e .1))
 numbered (two implies l r) i k e = both l r i k (numbered l (i + 1) k (append-nil-inv (faults l) (faults r) e .0)) (numbered r (i + 1 + size l) (k + owes l (i + 1)) (append-nil-inv (faults l) (faults r) e .1))
 numbered (two until l r) i k e = refl
-
--- ---- trips
-pub trip : splitOf false (two or (one eventually (leaf (var 0))) (leaf (var 1))) 0 ≡ parts (Or (owed 0) (safety 3 (var 1))) (E 2 (leaf (var 0)) ∷ [])
-unfolding live faults skeletonOf obligationsOf pure size
-trip = refl
-
-pub trip-text : skeletonText (Or (owed 0) (safety 3 (var 1))) ≡ byte 124 ∷ byte 35 ∷ number 0 ∷ byte 115 ∷ written (atom (var 1)) ∷ []
-unfolding skeletonText
-trip-text = refl
-
-pub trip-refused : splitOf false (two and (one eventually (leaf (var 0))) (one always (leaf (var 1)))) 0 ≡ refused 23
-unfolding live faults pure
-trip-refused = refl

@@ -10,14 +10,14 @@ use Rattle.formula.specs.Tree.{leaf, one, two, one-of, two-of, size}
 use Rattle.formula.specs.Spells.{Spells}
 use Rattle.formula.specs.Formula.{Atom, Unary, Binary, Formula, not, next, always, eventually, always-for, within, and, or, implies, until}
 use Rattle.formula.specs.Table.{nodeAt, Placed}
-use Rattle.formula.specs.Pure.{pure}
+use Rattle.formula.specs.Pure.{pure, unless}
 use Rattle.formula.specs.Signal.{endIf, Purely}
 use Rattle.formula.specs.declared.table.Walk.{Walk}
 use Rattle.formula.specs.declared.table.Walk.the-variants.{Upto as WalkUpto, Stuck}
 use Rattle.formula.proofs.Nodes.{numberOf, unary-number, binary-number}
 use Rattle.formula.proofs.Walks.{stuck-upto, upto-inj}
 use Rattle.formula.proofs.Places.{leaf-there, one-there, two-there, in-ops, placed-left, placed-right, falls-right}
-use Rattle.liveness.specs.Split.{live, unless, unlessBoth, temporal, faults}
+use Rattle.liveness.specs.Split.{live, unlessBoth, temporal, faults}
 use Rattle.liveness.specs.Judge.{Calm, Lives, topOf, Judged, Operand}
 use Rattle.liveness.specs.declared.walk.Top.{Top}
 use Rattle.liveness.specs.declared.walk.Top.the-variants.{Upto, Fault}

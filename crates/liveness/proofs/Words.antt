@@ -10,11 +10,12 @@ use lib.ListN.{length, getD, length-append}
 use Rattle.formula.specs.Tree.{leaf, one, two, one-of, two-of, size}
 use Rattle.formula.specs.Formula.{Atom, Unary, Binary, Formula, not, next, always, eventually, always-for, within, and, or, implies, until}
 use Rattle.formula.specs.Table.{Placed}
-use Rattle.formula.specs.Pure.{pure}
+use Rattle.formula.specs.Pure.{pure, unless}
+use Rattle.formula.proofs.Faults.{cons-nil, unless-nil}
 use Rattle.formula.proofs.Cases.{below-or}
 use Rattle.formula.proofs.Nodes.{numberOf}
 use Rattle.formula.proofs.Places.{placed-one, placed-left}
-use Rattle.liveness.specs.Split.{live, unless, unlessBoth, temporal, faults}
+use Rattle.liveness.specs.Split.{live, unlessBoth, temporal, faults}
 
 -- ---- liveness
 pub live-one : (o : Unary) (f : Formula) → (numberOf (one-of o) ≡ 6 → ⊥) → live (one o f) ≡ live f
@@ -88,15 +89,8 @@ faults-two or l r h = refl
 faults-two implies l r h = refl
 faults-two until l r h = absurd (omega arith)
 
-pub cons-nil : {A : Type 0} {a : A} {xs : List A} {B : Type 0} → a ∷ xs ≡ [] → B
-cons-nil e = let z : _≡_ {A = ℕ} 0 1 = cc in absurd (omega arith)
-
--- a formula without faults has none in its parts
-pub append-nil-inv : (a b : List ℕ) → a ++ b ≡ [] → (a ≡ []) × (b ≡ [])
-append-nil-inv [] b e = (refl, e)
-append-nil-inv (x ∷ a) b e = cons-nil e
-
-temporal-some : (b : Bool) {B : Type 0} → temporal b ≡ [] → B
+-- a formula without faults has no temporal operator but `eventually` and `until`
+pub temporal-some : (b : Bool) {B : Type 0} → temporal b ≡ [] → B
 temporal-some true e = cons-nil e
 temporal-some false e = cons-nil e
 
@@ -108,10 +102,6 @@ sound-eventually always f g h = temporal-some (live f) h
 sound-eventually eventually f g h = refl
 sound-eventually (always-for b) f g h = temporal-some (live f) h
 sound-eventually (within b) f g h = temporal-some (live f) h
-
-pub unless-nil : (t : Bool) (n : ℕ) → unless t n ≡ [] → t ≡ true
-unless-nil true n h = refl
-unless-nil false n h = cons-nil h
 
 pub both-nil : (a b : Bool) (n : ℕ) → unlessBoth a b n ≡ [] → (a ≡ true) × (b ≡ true)
 both-nil true b n h = (refl, unless-nil b n h)

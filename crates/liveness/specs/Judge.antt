@@ -8,9 +8,9 @@ use Rattle.formula.specs.Spells.{Spells}
 use Rattle.formula.specs.Formula.{Formula}
 use Rattle.formula.specs.Table.{nodeAt}
 use Rattle.formula.specs.Signal.{endIf}
-use Rattle.formula.specs.Pure.{pure}
+use Rattle.formula.specs.Pure.{pure, unless}
 use Rattle.formula.specs.declared.table.Walk.{Walk}
-use Rattle.liveness.specs.Split.{live, unless, faults}
+use Rattle.liveness.specs.Split.{live, faults}
 use Rattle.liveness.specs.declared.walk.Top.{Top}
 use Rattle.liveness.specs.declared.walk.Top.the-variants.{Upto, Fault}
 

@@ -10,7 +10,7 @@ use Prim.Native.Nat.{ℕ, _+_}
 use lib.ListN.{length}
 use Rattle.formula.specs.Tree.{leaf, one, two, size}
 use Rattle.formula.specs.Formula.{Atom, Formula, not, next, always, eventually, always-for, within, and, or, implies, until}
-use Rattle.formula.specs.Pure.{pure}
+use Rattle.formula.specs.Pure.{pure, unless}
 
 unfoldable pub live : Formula → Bool
 live (leaf a) = false
@@ -24,11 +24,6 @@ live (two and l r) = live l || live r
 live (two or l r) = live l || live r
 live (two implies l r) = live l || live r
 live (two until l r) = true
-
--- refusal n, unless the test holds
-abbrev pub unless : Bool → ℕ → List ℕ
-unless true n = []
-unless false n = n ∷ []
 
 -- two tests that both have to hold
 abbrev pub unlessBoth : Bool → Bool → ℕ → List ℕ

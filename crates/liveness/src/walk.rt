@@ -14,17 +14,17 @@ fn calm_at(ops: &[u8], nums: &[u64], i: usize) -> Walk
     ensures { λ r. ⌜ Calm (now (ops .entry)) (now (nums .entry)) i r ⌝ }
 {
     let word = ops[i];
-    if word < 3 {
+    if word < NOT {
         return Walk::Upto(i + 1);
     }
-    if word == 6 {
+    if word == EVENTUALLY {
         return Walk::Stuck;
     }
-    if 12 <= word {
+    if UNTIL <= word {
         return Walk::Stuck;
     }
     let first = calm_at(ops, nums, i + 1);
-    if word < 9 {
+    if word < AND {
         return first;
     }
     let Walk::Upto(e) = first else {
@@ -56,7 +56,7 @@ fn operand_at(ops: &[u8], nums: &[u64], i: usize, refusal: u64) -> Top
     requires { ⌜ Placed (now ops) (now nums) i ⌝ }
     ensures { λ r. ⌜ Operand (now (ops .entry)) (now (nums .entry)) i refusal r ⌝ }
 {
-    let walk = formula::signal::pure_at(ops, nums, i);
+    let walk = formula::signal::boolean_over_atoms(ops, nums, i);
     let Walk::Upto(e) = walk else {
         return Top::Fault(refusal);
     };

@@ -16,8 +16,8 @@ use Rattle.monitor.specs.declared.range.AnchorRange.{AnchorRange}
 use Rattle.monitor.specs.Mon.{Signal, range-check, delayed-check, obligation, Mon, check, And, Or}
 use Rattle.meaning.specs.Alarm.{Record, during, triggers, windowEnd, CheckAlarm, Alarm, First}
 use Rattle.meaning.specs.Culprit.{Culprit, Report}
-use Rattle.meaning.specs.State.{ObligationState, State, culprit, fresh, step, newlyFailed, after, EachNode, IfObligation, EachObligation}
-use Rattle.meaning.specs.Calls.{Call, refused, accepted, stepAll, reportOf, AcceptedAt, Below, InOrder, words, steps, Over, firstReport}
+use Rattle.meaning.specs.State.{ObligationState, State, culprit, initialState, step, newlyFailed, after, EachNode, IfObligation, EachObligation}
+use Rattle.meaning.specs.Calls.{Call, refused, accepted, stepAll, reportOf, AcceptedAt, Below, InOrder, wordsOf, stepCount, Over, firstReport}
 use Rattle.meaning.specs.Meaning.{Sound, NodeSound, Judged}
 use Rattle.meaning.proofs.Windows.{Kept, kept-marked, kept-names}
 use Rattle.meaning.proofs.Steps.{and-left, and-right, or-left, or-right, obligation-kept, marked, reports}
@@ -66,14 +66,14 @@ pub nodes-sound : (m : Mon) (rec : Record) (k : ℕ) → EachNode (NodeSound rec
 nodes-sound m rec k = each-node (NodeSound rec k) rec k (λ n. record { marked = marked n rec k; named = culprits n rec k }) m
 
 -- ---- lists of calls
-pub words-append : (cs ds : List Call) → words (cs ++ ds) ≡ words cs ++ words ds
-unfolding words
+pub words-append : (cs ds : List Call) → wordsOf (cs ++ ds) ≡ wordsOf cs ++ wordsOf ds
+unfolding wordsOf
 words-append [] ds = refl
 words-append (refused ∷ cs) ds = words-append cs ds
 words-append (accepted s w ∷ cs) ds = ap (w ∷_) (words-append cs ds)
 
-pub in-order-split : (k : ℕ) (cs ds : List Call) → InOrder k (cs ++ ds) → InOrder k cs × InOrder (k + steps cs) ds
-unfolding InOrder words
+pub in-order-split : (k : ℕ) (cs ds : List Call) → InOrder k (cs ++ ds) → InOrder k cs × InOrder (k + stepCount cs) ds
+unfolding InOrder wordsOf
 in-order-split k [] ds h = (tt, subst (λ (i : ℕ). InOrder i ds) (sym (add-zero k)) h)
 in-order-split k (refused ∷ cs) ds h = in-order-split k cs ds h
 in-order-split k (accepted s w ∷ cs) ds h =
@@ -87,37 +87,38 @@ stepped-append m st (c ∷ cs) ds = stepped-append m _ cs ds
 
 -- calls in order over a record's own words are its steps
 module _ (m : Mon) (rec : Record) where
-  pub stepped : (k : ℕ) (cs : List Call) → InOrder k cs → ((i : ℕ) → i < steps cs → getD (words cs) i 0 ≡ rec (k + i)) → stepAll m (after m rec k) cs ≡ after m rec (k + steps cs)
-  unfolding InOrder words stepAll after
+  pub stepped : (k : ℕ) (cs : List Call) → InOrder k cs → ((i : ℕ) → i < stepCount cs → getD (wordsOf cs) i 0 ≡ rec (k + i))
+      → stepAll m (after m rec k) cs ≡ after m rec (k + stepCount cs)
+  unfolding InOrder wordsOf stepAll after
   stepped k [] h e = ap (after m rec) (sym (add-zero k))
   stepped k (refused ∷ cs) h e = stepped k cs h e
   stepped k (accepted s w ∷ cs) h e =
       let x : w ≡ rec k = e 0 (omega arith) ∙ ap rec (add-zero k) in
       let y : (i : ℕ) → k + suc i ≡ suc k + i = λ i. omega arith in
-      let z : suc k + steps cs ≡ k + suc (steps cs) = omega arith in
+      let z : suc k + stepCount cs ≡ k + suc (stepCount cs) = omega arith in
       ap (λ (st : State m). stepAll m st cs) (ap₂ (λ (i v : ℕ). step m (after m rec k) i v .state) (h .0) x)
       ∙ stepped (suc k) cs (h .1) (λ i q. e (suc i) (omega arith) ∙ ap rec (y i))
       ∙ ap (after m rec) z
 
 pub over-part : (rec : Record) (before rest : List Call) → Over rec (before ++ rest) → Over rec before
 over-part rec before rest o i z =
-    sym (List·getD-append (words before) (words rest) 0 i z)
+    sym (List·getD-append (wordsOf before) (wordsOf rest) 0 i z)
     ∙ ap (λ (l : List ℕ). getD l i 0) (sym (words-append before rest))
-    ∙ o i (omega (arith, ap length (words-append before rest), length-append (words before) (words rest)))
+    ∙ o i (omega (arith, ap length (words-append before rest), length-append (wordsOf before) (wordsOf rest)))
 
-pub over-rest : (rec : Record) (before rest : List Call) → Over rec (before ++ rest) → (i : ℕ) → i < steps rest → getD (words rest) i 0 ≡ rec (steps before + i)
+pub over-rest : (rec : Record) (before rest : List Call) → Over rec (before ++ rest) → (i : ℕ) → i < stepCount rest → getD (wordsOf rest) i 0 ≡ rec (stepCount before + i)
 over-rest rec before rest o i z =
-    sym (getD-append-add (words before) (words rest) i 0)
-    ∙ ap (λ (l : List ℕ). getD l (steps before + i) 0) (sym (words-append before rest))
-    ∙ o (steps before + i) (omega (arith, ap length (words-append before rest), length-append (words before) (words rest)))
+    sym (getD-append-add (wordsOf before) (wordsOf rest) i 0)
+    ∙ ap (λ (l : List ℕ). getD l (stepCount before + i) 0) (sym (words-append before rest))
+    ∙ o (stepCount before + i) (omega (arith, ap length (words-append before rest), length-append (wordsOf before) (wordsOf rest)))
 
 module _ (m : Mon) (rec : Record) (before rest : List Call) (h : InOrder 0 (before ++ rest)) (o : Over rec (before ++ rest)) where
   -- the state after a first part of the calls
-  pub stepped-part : stepAll m (fresh m) before ≡ after m rec (steps before)
+  pub stepped-part : stepAll m (initialState m) before ≡ after m rec (stepCount before)
   unfolding after
   stepped-part =
       stepped m rec 0 before (in-order-split 0 before rest h .0) (λ i z. over-part rec before rest o i z ∙ ap rec (sym (zero-add i)))
-      ∙ ap (after m rec) (zero-add (steps before))
+      ∙ ap (after m rec) (zero-add (stepCount before))
 
 -- ---- what calls in order over a record's own words report
 none-some : {s : ℕ} → _≡_ {A = Option ℕ} none (some s) → ⊥
@@ -149,8 +150,9 @@ module _ (m : Mon) (rec : Record) (k t w s : ℕ) (cs : List Call) (there : t �
 
 module _ (m : Mon) (rec : Record) where
   -- they report s exactly where one of them is accepted at s and the alarm holds at s and at no earlier step
-  pub reported : (k : ℕ) (cs : List Call) → InOrder k cs → ((i : ℕ) → i < steps cs → getD (words cs) i 0 ≡ rec (k + i)) → (s : ℕ) → (reportOf m (after m rec k) cs ≡ some s) ↔ (AcceptedAt s cs × First (Alarm m rec) s)
-  unfolding InOrder words reportOf AcceptedAt
+  pub reported : (k : ℕ) (cs : List Call) → InOrder k cs → ((i : ℕ) → i < stepCount cs → getD (wordsOf cs) i 0 ≡ rec (k + i)) → (s : ℕ)
+      → (reportOf m (after m rec k) cs ≡ some s) ↔ (AcceptedAt s cs × First (Alarm m rec) s)
+  unfolding InOrder wordsOf reportOf AcceptedAt
   reported k [] h e s = (λ z. absurd (none-some z), λ z. absurd (z .0))
   reported k (refused ∷ cs) h e s = reported k cs h e s
   reported k (accepted t w ∷ cs) h e s =

@@ -18,7 +18,7 @@ use Rattle.formula.proofs.Cases.{true-false}
 use Rattle.monitor.specs.Compile.{ruleFaults, ruleNode, faults, consequent, node, implication}
 use Rattle.meaning.specs.Alarm.{Record, truth, CheckAlarm, Alarm}
 use Rattle.meaning.specs.Culprit.{minus-one}
-use Rattle.meaning.specs.State.{fresh, step, checkStep, joinedStep, obligationStep, unfailedStep}
+use Rattle.meaning.specs.State.{initialState, step, checkStep, joinedStep, obligationStep, unfailedStep}
 use Rattle.meaning.specs.Logic.{Holds, Fails}
 use Rattle.meaning.specs.Calls.{firstReport}
 use Rattle.meaning.proofs.Truths.{and-true}
@@ -30,7 +30,7 @@ endless ws s = getD ws s 3
 pub record FalseAlarm (f : Formula) (ws : List ℕ) (s : ℕ) (c : ℤ) : Type 0 where
   pub compiles : ruleFaults f ≡ []
   pub holds : Holds f (endless ws) 0
-  pub reported : firstReport (ruleNode f 0) (fresh (ruleNode f 0)) 0 ws ≡ some (s, c)
+  pub reported : firstReport (ruleNode f 0) (initialState (ruleNode f 0)) 0 ws ≡ some (s, c)
 
 pub record Missing (f : Formula) (ws : List ℕ) : Type 0 where
   pub compiles : ruleFaults f ≡ []

@@ -12,8 +12,8 @@ use Rattle.formula.specs.Formula.{Formula}
 use Rattle.monitor.specs.Mon.{Mon}
 use Rattle.monitor.specs.Compile.{ruleNode}
 use Rattle.meaning.specs.Alarm.{Record, Alarm, First}
-use Rattle.meaning.specs.State.{State, EachNode, EachObligation, fresh, after}
-use Rattle.meaning.specs.Calls.{Call, accepted, stepAll, reportOf, AcceptedAt, InOrder, words, steps, Over, recordOf}
+use Rattle.meaning.specs.State.{State, EachNode, EachObligation, initialState, after}
+use Rattle.meaning.specs.Calls.{Call, accepted, stepAll, reportOf, AcceptedAt, InOrder, wordsOf, stepCount, Over, recordOf}
 use Rattle.meaning.specs.Meaning.{Sound, NodeSound}
 use Rattle.meaning.specs.Plain.{Plain}
 use Rattle.meaning.specs.Demand.{Machine, runAll, callsOf, Fair, AllFair, Lent, Keeps, Tells, PlainTells, Demand}
@@ -55,17 +55,17 @@ module _ {Memory Event : Type 0} (k : Machine Memory Event) where
     ready-on mem [] r f = r
     ready-on mem (e ∷ xs) r f = ready-on (k .run e mem) xs (law .stays e mem r (f .0)) (f .1)
 
-    module _ (mem : Memory) (r : Reads mem (fresh m)) (rec : Record) where
+    module _ (mem : Memory) (r : Reads mem (initialState m)) (rec : Record) where
       -- one event behind others, its calls in order over the record
       one-event : (xs : List Event) (e : Event) (ds rest : List Call) → AllFair k m mem xs → Fair k m e (runAll k mem xs) → k .calls e (runAll k mem xs) ≡ ds → InOrder 0 (callsOf k mem xs ++ (ds ++ rest)) → Over rec (callsOf k mem xs ++ (ds ++ rest)) → (s : ℕ) → (k .reports e (runAll k mem xs) ≡ some s) ↔ (AcceptedAt s ds × First (Alarm m rec) s)
       one-event xs e ds rest f g q h o s =
           let cs : List Call = callsOf k mem xs in
-          let x : Reads (runAll k mem xs) (stepAll m (fresh m) cs) = reads-on mem (fresh m) xs r f in
-          let y : stepAll m (fresh m) cs ≡ after m rec (steps cs) = stepped-part m rec cs (ds ++ rest) h o in
-          let i : InOrder (steps cs) (ds ++ rest) = subst (λ (j : ℕ). InOrder j (ds ++ rest)) (zero-add (steps cs)) (in-order-split 0 cs (ds ++ rest) h .1) in
+          let x : Reads (runAll k mem xs) (stepAll m (initialState m) cs) = reads-on mem (initialState m) xs r f in
+          let y : stepAll m (initialState m) cs ≡ after m rec (stepCount cs) = stepped-part m rec cs (ds ++ rest) h o in
+          let i : InOrder (stepCount cs) (ds ++ rest) = subst (λ (j : ℕ). InOrder j (ds ++ rest)) (zero-add (stepCount cs)) (in-order-split 0 cs (ds ++ rest) h .1) in
           let o′ : Over rec ((cs ++ ds) ++ rest) = subst (Over rec) (sym (append-assoc cs ds rest)) o in
-          let z = reported m rec (steps cs) ds (in-order-split (steps cs) ds rest i .0) (over-rest rec cs ds (over-part rec (cs ++ ds) rest o′)) s in
-          let v : k .reports e (runAll k mem xs) ≡ reportOf m (after m rec (steps cs)) ds = law .follows e (runAll k mem xs) _ x g .1 ∙ ap (reportOf m (stepAll m (fresh m) cs)) q ∙ ap (λ (st : State m). reportOf m st ds) y in
+          let z = reported m rec (stepCount cs) ds (in-order-split (stepCount cs) ds rest i .0) (over-rest rec cs ds (over-part rec (cs ++ ds) rest o′)) s in
+          let v : k .reports e (runAll k mem xs) ≡ reportOf m (after m rec (stepCount cs)) ds = law .follows e (runAll k mem xs) _ x g .1 ∙ ap (reportOf m (stepAll m (initialState m) cs)) q ∙ ap (λ (st : State m). reportOf m st ds) y in
           subst (λ (a : Option ℕ). (a ≡ some s) ↔ (AcceptedAt s ds × First (Alarm m rec) s)) (sym v) z
 
       pub tells : (es : List Event) → AllFair k m mem es → InOrder 0 (callsOf k mem es) → Over rec (callsOf k mem es) → Tells k m Reads rec mem es
@@ -78,18 +78,18 @@ module _ {Memory Event : Type 0} (k : Machine Memory Event) where
         after = λ xs ys q.
             let (a, b) = fair-split m mem xs ys (subst (AllFair k m mem) q f) in
             let c = ap (callsOf k mem) q ∙ calls-append mem xs ys in
-            let y : stepAll m (fresh m) (callsOf k mem xs) ≡ after m rec (steps (callsOf k mem xs)) = stepped-part m rec (callsOf k mem xs) _ (subst (InOrder 0) c h) (subst (Over rec) c o) in
+            let y : stepAll m (initialState m) (callsOf k mem xs) ≡ after m rec (stepCount (callsOf k mem xs)) = stepped-part m rec (callsOf k mem xs) _ (subst (InOrder 0) c h) (subst (Over rec) c o) in
             record {
-              state = after m rec (steps (callsOf k mem xs));
-              reads = subst (Reads (runAll k mem xs)) y (reads-on mem (fresh m) xs r a);
-              obligations = obligations-sound m rec (steps (callsOf k mem xs));
-              nodes = nodes-sound m rec (steps (callsOf k mem xs));
+              state = after m rec (stepCount (callsOf k mem xs));
+              reads = subst (Reads (runAll k mem xs)) y (reads-on mem (initialState m) xs r a);
+              obligations = obligations-sound m rec (stepCount (callsOf k mem xs));
+              nodes = nodes-sound m rec (stepCount (callsOf k mem xs));
             };
       }
 
   -- the demand, of the rule f at place i of its table
   pub meets : (f : Formula) (i : ℕ) (Reads : Memory → State (ruleNode f i) → Type 0) (Ready : Memory → Type 0) →
-      Lawful (ruleNode f i) Reads Ready → (mem : Memory) → Reads mem (fresh (ruleNode f i)) → Ready mem →
+      Lawful (ruleNode f i) Reads Ready → (mem : Memory) → Reads mem (initialState (ruleNode f i)) → Ready mem →
       ((s w : ℕ) → s < 9223372036854775808 → (e : Event) × Lent k (ruleNode f i) e × (k .asks e ≡ accepted s w ∷ [])) →
       Demand k f (ruleNode f i) Reads mem
   meets f i Reads Ready law mem r d l = record {

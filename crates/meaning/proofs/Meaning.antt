@@ -16,7 +16,7 @@ use Rattle.formula.specs.Pure.{pure, value}
 use Rattle.formula.specs.Tree.{size}
 use Rattle.meaning.specs.Alarm.{Record, truth, Alarm, First}
 use Rattle.meaning.specs.Culprit.{Culprit, Report}
-use Rattle.meaning.specs.State.{DelayedState, ObligationState, State, failed, culprit, fresh, step, newlyFailed, after, WellShaped, EachNode, EachObligation, checkStep, joinedStep, obligationStep, unfailedStep}
+use Rattle.meaning.specs.State.{DelayedState, ObligationState, State, failed, culprit, initialState, step, newlyFailed, after, WellShaped, EachNode, EachObligation, checkStep, joinedStep, obligationStep, unfailedStep}
 use Rattle.meaning.specs.Logic.{Holds, Fails}
 use Rattle.meaning.specs.Plain.{Plain}
 use Rattle.meaning.specs.Calls.{firstReport}
@@ -72,7 +72,7 @@ at-root P m st h = calls-of.at-root P m st h
 
 -- ---- one call from any well-shaped state
 module _ (m : Mon) where
-  pub fresh-shaped : WellShaped m (fresh m)
+  pub fresh-shaped : WellShaped m (initialState m)
   fresh-shaped = shapes-of.fresh-shaped m
 
   module _ (st : State m) (s w : ℕ) where
@@ -94,7 +94,8 @@ module _ (p q : Signal) (r : AnchorRange) (st : DelayedState) (s w : ℕ) where
   pub delayed-remembers : step (check (delayed-check p q r)) st s w .state .prev-antecedent ≡ truth p w
   delayed-remembers = shapes-of.delayed-remembers p q r st s w
 
-  pub delayed-looks-back : st .failed ≡ false → (step (check (delayed-check p q r)) st s w .now ≡ true) ↔ ((containsOf r s ≡ true) × (st .prev-antecedent ≡ true) × (truth q w ≡ false))
+  pub delayed-looks-back : st .failed ≡ false
+      → (step (check (delayed-check p q r)) st s w .now ≡ true) ↔ ((containsOf r s ≡ true) × (st .prev-antecedent ≡ true) × (truth q w ≡ false))
   delayed-looks-back h = shapes-of.delayed-looks-back p q r st s w h
 
 module _ (b : ℕ) (p q : Signal) (r : AnchorRange) (st : ObligationState) (s w : ℕ) where
@@ -102,18 +103,22 @@ module _ (b : ℕ) (p q : Signal) (r : AnchorRange) (st : ObligationState) (s w 
   obligation-stays h = shapes-of.obligation-stays b p q r st s w h
 
   -- an open window takes one from remaining at each call without its body and fails at zero
-  pub window-ticks : WellShaped (check (obligation b p q r)) st → st .failed ≡ false → st .pending ≡ true → truth q w ≡ false → Ticks st (step (check (obligation b p q r)) st s w .state)
+  pub window-ticks : WellShaped (check (obligation b p q r)) st → st .failed ≡ false → st .pending ≡ true → truth q w ≡ false
+      → Ticks st (step (check (obligation b p q r)) st s w .state)
   window-ticks = shapes-of.window-ticks b p q r st s w
 
-  pub window-closes : WellShaped (check (obligation b p q r)) st → st .failed ≡ false → st .pending ≡ true → truth q w ≡ true → Closes st (step (check (obligation b p q r)) st s w .state)
+  pub window-closes : WellShaped (check (obligation b p q r)) st → st .failed ≡ false → st .pending ≡ true → truth q w ≡ true
+      → Closes st (step (check (obligation b p q r)) st s w .state)
   window-closes = shapes-of.window-closes b p q r st s w
 
-  pub window-opens : 1 ≤ b → st .failed ≡ false → st .pending ≡ false → containsOf r s ≡ true → truth p w ≡ true → Opens b s (truth q w) (step (check (obligation b p q r)) st s w .state)
+  pub window-opens : 1 ≤ b → st .failed ≡ false → st .pending ≡ false → containsOf r s ≡ true → truth p w ≡ true
+      → Opens b s (truth q w) (step (check (obligation b p q r)) st s w .state)
   window-opens = shapes-of.window-opens b p q r st s w
 
 -- bound 0: it fails at the trigger's own step or stays as it is, and names a step only on failing
 module _ (p q : Signal) (r : AnchorRange) (st : ObligationState) (s w : ℕ) where
-  pub zero-fails : st .failed ≡ false → containsOf r s ≡ true → truth p w ≡ true → truth q w ≡ false → (step (check (obligation 0 p q r)) st s w .now ≡ true) × (step (check (obligation 0 p q r)) st s w .state .culprit ≡ pos s)
+  pub zero-fails : st .failed ≡ false → containsOf r s ≡ true → truth p w ≡ true → truth q w ≡ false
+      → (step (check (obligation 0 p q r)) st s w .now ≡ true) × (step (check (obligation 0 p q r)) st s w .state .culprit ≡ pos s)
   zero-fails = shapes-of.zero-fails p q r st s w
 
   pub zero-stays : st .failed ≡ false → ((containsOf r s && truth p w) ≡ false) ⊎ (truth q w ≡ true) → step (check (obligation 0 p q r)) st s w .state ≡ st

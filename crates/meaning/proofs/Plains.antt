@@ -11,14 +11,14 @@ use lib.Dec.{leb, eqb, leb·zero, leb·suc-suc}
 use borrow.Author.Tests.{leb-true, le-leb, ne-eqb}
 use Rattle.formula.specs.Tree.{leaf, one, two, size}
 use Rattle.formula.specs.Formula.{Formula, not, next, always, eventually, always-for, within, and, or, implies, until}
-use Rattle.formula.specs.Pure.{pure, value}
+use Rattle.formula.specs.Pure.{pure, value, unless}
 use Rattle.formula.proofs.Cases.{below-or, true-or, true-false}
 use Rattle.monitor.specs.declared.range.End.{End}
 use Rattle.monitor.specs.declared.range.End.the-variants.{Step, Open}
 use Rattle.monitor.specs.declared.range.AnchorRange.{AnchorRange}
 use Rattle.monitor.specs.Range.{allOf, uptoOf, containsOf, notPast, later, shiftedOf}
 use Rattle.monitor.specs.Mon.{Signal, always-true, at, Check, range-check, obligation, Mon, check, And}
-use Rattle.monitor.specs.Compile.{when, unless, consequent, faults, implication, node, ruleFaults, ruleNode}
+use Rattle.monitor.specs.Compile.{when, consequent, faults, implication, node, ruleFaults, ruleNode}
 use Rattle.meaning.specs.Alarm.{Record, truth, windowEnd, Broken, CheckAlarm, Alarm}
 use Rattle.meaning.specs.Logic.{Holds, Fails}
 use Rattle.meaning.specs.Plain.{Pure, Body, signal, next-signal, delayed, soon, answered, both, again, Plain, plain-always, plain-always-for, plain-within, plain-answered, plain-and}
@@ -277,7 +277,8 @@ exact-again f r rec m all x = record {
 }
 
 -- ---- what may stand below `always` and `always-for`
-pub body-exact : {unbounded : Bool} {f : Formula} → Body unbounded f → (rec : Record) (i : ℕ) (r : AnchorRange) → (unbounded ≡ true → (t : ℕ) → containsOf r t ≡ true) → Exact f r rec (node f i r true)
+pub body-exact : {unbounded : Bool} {f : Formula} → Body unbounded f → (rec : Record) (i : ℕ) (r : AnchorRange)
+    → (unbounded ≡ true → (t : ℕ) → containsOf r t ≡ true) → Exact f r rec (node f i r true)
 unfolding node implication
 body-exact (signal {f = f} p) rec i r all = exact-pure rec i r f p
 body-exact (next-signal {f = f} p) rec i r all = exact-next rec i r f p

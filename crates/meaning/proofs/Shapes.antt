@@ -13,7 +13,7 @@ use Rattle.monitor.specs.declared.range.AnchorRange.{AnchorRange}
 use Rattle.monitor.specs.Range.{containsOf}
 use Rattle.monitor.specs.Mon.{Signal, Check, range-check, delayed-check, obligation, Mon, check, And, Or}
 use Rattle.meaning.specs.Alarm.{truth}
-use Rattle.meaning.specs.State.{DelayedState, ObligationState, JoinedState, CheckState, State, failed, culprit, freshObligation, freshCheck, fresh, opened, ticked, atOnce, unless, unfailedStep, obligationStep, offered, least, Stepped, checkStep, joinedStep, step, newlyFailed, FromMinusOne, WellKept, CheckShaped, WellShaped}
+use Rattle.meaning.specs.State.{DelayedState, ObligationState, JoinedState, CheckState, State, failed, culprit, initialObligation, initialCheck, initialState, opened, ticked, atOnce, unfailedStep, obligationStep, offered, least, Stepped, checkStep, joinedStep, step, newlyFailed, FromMinusOne, WellKept, CheckShaped, WellShaped}
 use Rattle.meaning.specs.Meaning.{Ticks, Closes, Opens}
 use Rattle.meaning.proofs.Truths.{and-true, true-and, true-or-left, true-or-right, false-not}
 use Rattle.meaning.proofs.Windows.{obligation-failed, obligation-open-body, obligation-open-without, obligation-opens, obligation-opens-body, obligation-zero-fails, obligation-zero-body, obligation-zero-idle}
@@ -64,16 +64,16 @@ unfailed-kept zero s due body o h f = at-once-kept zero o h due body s
 unfailed-kept (suc b) s due body o h f =
     ticked-kept (suc b) _ (opened-kept (suc b) o h (o .pending) due s (omega arith)) _ body (opened-unfailed (o .pending) due (suc b) s o f) refl
 
-unless-kept : (b : ℕ) (x : Bool) (o p : ObligationState) → o .failed ≡ x → WellKept b o → (o .failed ≡ false → WellKept b p) → WellKept b (unless x o p)
-unless-kept b true o p e h k = h
-unless-kept b false o p e h k = k e
+pick-kept : (b : ℕ) (x : Bool) (o p : ObligationState) → o .failed ≡ x → WellKept b o → (o .failed ≡ false → WellKept b p) → WellKept b (pick x o p)
+pick-kept b true o p e h k = h
+pick-kept b false o p e h k = k e
 
 -- ---- a step leaves a well-shaped state
 check-shaped : (c : Check) (st : CheckState c) (s w : ℕ) → CheckShaped c st → CheckShaped c (checkStep c st s w .state)
 unfolding CheckShaped checkStep obligationStep
 check-shaped (range-check p r) st s w h = tt
 check-shaped (delayed-check p q r) st s w h = tt
-check-shaped (obligation b p q r) st s w h = unless-kept b _ st _ refl h (λ f. unfailed-kept b s _ _ st h f)
+check-shaped (obligation b p q r) st s w h = pick-kept b _ st _ refl h (λ f. unfailed-kept b s _ _ st h f)
 
 joined-from : (m n : Mon) (now : Bool) (l : Stepped (State m)) (r : Stepped (State n)) (st : JoinedState (State m) (State n)) → FromMinusOne (st .culprit) → FromMinusOne (joinedStep m n now l r st .state .culprit)
 unfolding joinedStep
@@ -91,16 +91,16 @@ step-shaped (Or m n) st s w h =
     let r = step n (st .right) s w in
     (step-shaped m (st .left) s w (h .0), step-shaped n (st .right) s w (h .1), joined-from m n (l .now && r .now) l r st (h .2))
 
-fresh-kept : (b : ℕ) → WellKept b freshObligation
+fresh-kept : (b : ℕ) → WellKept b initialObligation
 fresh-kept b = record { window = λ p f. true-false p refl; culprit = tt }
 
-fresh-check : (c : Check) → CheckShaped c (freshCheck c)
+fresh-check : (c : Check) → CheckShaped c (initialCheck c)
 unfolding CheckShaped
 fresh-check (range-check p r) = tt
 fresh-check (delayed-check p q r) = tt
 fresh-check (obligation b p q r) = fresh-kept b
 
-pub fresh-shaped : (m : Mon) → WellShaped m (fresh m)
+pub fresh-shaped : (m : Mon) → WellShaped m (initialState m)
 unfolding WellShaped
 fresh-shaped (check c) = fresh-check c
 fresh-shaped (And m n) = (fresh-shaped m, fresh-shaped n, tt)
@@ -127,7 +127,8 @@ module _ (p q : Signal) (r : AnchorRange) (st : DelayedState) (s w : ℕ) where
   unfolding step checkStep
   delayed-remembers = refl
 
-  pub delayed-looks-back : st .failed ≡ false → (step (check (delayed-check p q r)) st s w .now ≡ true) ↔ ((containsOf r s ≡ true) × (st .prev-antecedent ≡ true) × (truth q w ≡ false))
+  pub delayed-looks-back : st .failed ≡ false
+      → (step (check (delayed-check p q r)) st s w .now ≡ true) ↔ ((containsOf r s ≡ true) × (st .prev-antecedent ≡ true) × (truth q w ≡ false))
   unfolding step checkStep
   delayed-looks-back f = (
     λ e.
@@ -184,15 +185,18 @@ window-opens′ (suc b) s due false o z f p d = subst (Opens (suc b) s false) (s
 })
 
 module _ (b : ℕ) (p q : Signal) (r : AnchorRange) (st : ObligationState) (s w : ℕ) where
-  pub window-ticks : WellShaped (check (obligation b p q r)) st → st .failed ≡ false → st .pending ≡ true → truth q w ≡ false → Ticks st (step (check (obligation b p q r)) st s w .state)
+  pub window-ticks : WellShaped (check (obligation b p q r)) st → st .failed ≡ false → st .pending ≡ true → truth q w ≡ false
+      → Ticks st (step (check (obligation b p q r)) st s w .state)
   unfolding step checkStep WellShaped CheckShaped
   window-ticks h f o e = window-ticks′ b s _ _ st h f o e
 
-  pub window-closes : WellShaped (check (obligation b p q r)) st → st .failed ≡ false → st .pending ≡ true → truth q w ≡ true → Closes st (step (check (obligation b p q r)) st s w .state)
+  pub window-closes : WellShaped (check (obligation b p q r)) st → st .failed ≡ false → st .pending ≡ true → truth q w ≡ true
+      → Closes st (step (check (obligation b p q r)) st s w .state)
   unfolding step checkStep WellShaped CheckShaped
   window-closes h f o e = window-closes′ b s _ _ st h f o e
 
-  pub window-opens : 1 ≤ b → st .failed ≡ false → st .pending ≡ false → containsOf r s ≡ true → truth p w ≡ true → Opens b s (truth q w) (step (check (obligation b p q r)) st s w .state)
+  pub window-opens : 1 ≤ b → st .failed ≡ false → st .pending ≡ false → containsOf r s ≡ true → truth p w ≡ true
+      → Opens b s (truth q w) (step (check (obligation b p q r)) st s w .state)
   unfolding step checkStep
   window-opens z f o i e = window-opens′ b s _ _ st z f o (true-and i e)
 
@@ -203,7 +207,8 @@ module _ (p q : Signal) (r : AnchorRange) (st : ObligationState) (s w : ℕ) whe
   zero-quiet true y f (inr e) = obligation-zero-body s true y st f refl e
   zero-quiet false y f h = obligation-zero-idle s false y st f refl
 
-  pub zero-fails : st .failed ≡ false → containsOf r s ≡ true → truth p w ≡ true → truth q w ≡ false → (step (check (obligation 0 p q r)) st s w .now ≡ true) × (step (check (obligation 0 p q r)) st s w .state .culprit ≡ pos s)
+  pub zero-fails : st .failed ≡ false → containsOf r s ≡ true → truth p w ≡ true → truth q w ≡ false
+      → (step (check (obligation 0 p q r)) st s w .now ≡ true) × (step (check (obligation 0 p q r)) st s w .state .culprit ≡ pos s)
   unfolding step checkStep
   zero-fails f i d e =
       let z = obligation-zero-fails s (containsOf r s && truth p w) (truth q w) st f (true-and i d) e in

@@ -11,7 +11,7 @@ use Rattle.monitor.specs.declared.range.AnchorRange.{AnchorRange}
 use Rattle.monitor.specs.Range.{containsOf}
 use Rattle.monitor.specs.Mon.{Signal, Check, range-check, delayed-check, obligation, Mon, check, And, Or}
 use Rattle.meaning.specs.Alarm.{Record, truth, during, triggers, Broken, CheckAlarm, Alarm, First, NoneBelow}
-use Rattle.meaning.specs.State.{RangeState, DelayedState, ObligationState, CheckState, State, checkFailed, failed, freshCheck, fresh, checkStep, joinedStep, step, newlyFailed, after}
+use Rattle.meaning.specs.State.{RangeState, DelayedState, ObligationState, CheckState, State, checkFailed, failed, initialCheck, initialState, checkStep, joinedStep, step, newlyFailed, after}
 use Rattle.meaning.proofs.Truths.{and-true, true-and, or-true, true-or-left, true-or-right, or-same, false-not, untrue}
 use Rattle.meaning.proofs.Windows.{obligation-failed, Kept, kept-fresh, kept-step, kept-marked, kept-names}
 
@@ -54,12 +54,12 @@ step-marks (check c) st s w = check-marks c st s w
 step-marks (And m n) st s w = refl
 step-marks (Or m n) st s w = refl
 
-check-fresh : (c : Check) → checkFailed c (freshCheck c) ≡ false
+check-fresh : (c : Check) → checkFailed c (initialCheck c) ≡ false
 check-fresh (range-check p r) = refl
 check-fresh (delayed-check p q r) = refl
 check-fresh (obligation b p q r) = refl
 
-pub fresh-unmarked : (m : Mon) → failed m (fresh m) ≡ false
+pub fresh-unmarked : (m : Mon) → failed m (initialState m) ≡ false
 fresh-unmarked (check c) = check-fresh c
 fresh-unmarked (And m n) = refl
 fresh-unmarked (Or m n) = refl

@@ -12,7 +12,7 @@ use borrow.Author.Tests.{eqb-true, eqb-false}
 use Rattle.formula.proofs.Cases.{below-or, true-false}
 use Rattle.meaning.specs.Alarm.{windowEnd, Missed, First}
 use Rattle.meaning.specs.Culprit.{Waits, Opens, Blamed, Latest}
-use Rattle.meaning.specs.State.{ObligationState, freshObligation, unfailedStep, obligationStep}
+use Rattle.meaning.specs.State.{ObligationState, initialObligation, unfailedStep, obligationStep}
 
 -- ---- one step, case by case
 module _ (b s : ℕ) (due body : Bool) (o : ObligationState) where
@@ -20,11 +20,13 @@ module _ (b s : ℕ) (due body : Bool) (o : ObligationState) where
   unfolding obligationStep
   obligation-failed f = rw f refl
 
-  pub obligation-open-body : o .failed ≡ false → o .pending ≡ true → body ≡ true → obligationStep (suc b) s due body o ≡ record { pending = false; remaining = o .remaining; failed = o .failed; culprit = o .culprit }
+  pub obligation-open-body : o .failed ≡ false → o .pending ≡ true → body ≡ true
+      → obligationStep (suc b) s due body o ≡ record { pending = false; remaining = o .remaining; failed = o .failed; culprit = o .culprit }
   unfolding obligationStep unfailedStep
   obligation-open-body f p q = rw (f, p, q) refl
 
-  pub obligation-open-without : o .failed ≡ false → o .pending ≡ true → body ≡ false → obligationStep (suc b) s due body o ≡ record { pending = true; remaining = o .remaining - 1; failed = eqb (o .remaining - 1) 0; culprit = o .culprit }
+  pub obligation-open-without : o .failed ≡ false → o .pending ≡ true → body ≡ false
+      → obligationStep (suc b) s due body o ≡ record { pending = true; remaining = o .remaining - 1; failed = eqb (o .remaining - 1) 0; culprit = o .culprit }
   unfolding obligationStep unfailedStep
   obligation-open-without f p q = rw (f, p, q) refl
 
@@ -32,16 +34,19 @@ module _ (b s : ℕ) (due body : Bool) (o : ObligationState) where
   unfolding obligationStep unfailedStep
   obligation-idle f p d = rw (f, p, d) refl
 
-  pub obligation-opens-body : o .failed ≡ false → o .pending ≡ false → due ≡ true → body ≡ true → obligationStep (suc b) s due body o ≡ record { pending = false; remaining = suc b; failed = o .failed; culprit = pos s }
+  pub obligation-opens-body : o .failed ≡ false → o .pending ≡ false → due ≡ true → body ≡ true
+      → obligationStep (suc b) s due body o ≡ record { pending = false; remaining = suc b; failed = o .failed; culprit = pos s }
   unfolding obligationStep unfailedStep
   obligation-opens-body f p d q = rw (f, p, d, q) refl
 
-  pub obligation-opens : o .failed ≡ false → o .pending ≡ false → due ≡ true → body ≡ false → obligationStep (suc b) s due body o ≡ record { pending = true; remaining = suc b - 1; failed = eqb (suc b - 1) 0; culprit = pos s }
+  pub obligation-opens : o .failed ≡ false → o .pending ≡ false → due ≡ true → body ≡ false
+      → obligationStep (suc b) s due body o ≡ record { pending = true; remaining = suc b - 1; failed = eqb (suc b - 1) 0; culprit = pos s }
   unfolding obligationStep unfailedStep
   obligation-opens f p d q = rw (f, p, d, q) refl
 
 module _ (s : ℕ) (due body : Bool) (o : ObligationState) where
-  pub obligation-zero-fails : o .failed ≡ false → due ≡ true → body ≡ false → obligationStep zero s due body o ≡ record { pending = o .pending; remaining = o .remaining; failed = true; culprit = pos s }
+  pub obligation-zero-fails : o .failed ≡ false → due ≡ true → body ≡ false
+      → obligationStep zero s due body o ≡ record { pending = o .pending; remaining = o .remaining; failed = true; culprit = pos s }
   unfolding obligationStep unfailedStep
   obligation-zero-fails f d q = rw (f, d, q) refl
 
@@ -295,7 +300,7 @@ kept-phase (suc b) trigger body k o (is-idle h) l = kept-suc b trigger body k o 
 
 -- ---- the invariant holds at the start, and each step keeps it
 module _ (b : ℕ) (trigger body : ℕ → Bool) where
-  pub kept-fresh : Kept b trigger body 0 freshObligation
+  pub kept-fresh : Kept b trigger body 0 initialObligation
   kept-fresh = record { phase = is-idle (record { unmarked = refl; closed = refl; before = λ u z. absurd (omega arith) }); latest = λ u z. absurd (omega arith) }
 
   pub kept-step : (k : ℕ) (o : ObligationState) → Kept b trigger body k o → Kept b trigger body (suc k) (obligationStep b k (trigger k) (body k) o)

@@ -13,6 +13,7 @@ use mathlib.Core.Path.{_≡_}
 use Prim.Native.Nat.{ℕ, suc, _<_}
 use lib.IntN.{ℤ}
 use lib.ListN.{length, getD}
+use Rattle.terms.specs.Limits as limits
 use Rattle.monitor.specs.Mon.{Mon}
 use Rattle.meaning.specs.Alarm.{Record}
 use Rattle.meaning.specs.State.{State, culprit, step, newlyFailed}
@@ -52,22 +53,22 @@ AcceptedAt s (accepted t w ∷ cs) = (s ≡ t) ⊎ AcceptedAt s cs
 unfoldable pub Below : List Call → Type 0
 Below [] = Unit {0}
 Below (refused ∷ cs) = Below cs
-Below (accepted s w ∷ cs) = (s < 9223372036854775808) × Below cs
+Below (accepted s w ∷ cs) = (s < limits.steps) × Below cs
 
-unfoldable pub words : List Call → List ℕ
-words [] = []
-words (refused ∷ cs) = words cs
-words (accepted s w ∷ cs) = w ∷ words cs
+unfoldable pub wordsOf : List Call → List ℕ
+wordsOf [] = []
+wordsOf (refused ∷ cs) = wordsOf cs
+wordsOf (accepted s w ∷ cs) = w ∷ wordsOf cs
 
 -- how many calls were accepted
-abbrev pub steps : List Call → ℕ
-steps cs = length (words cs)
+abbrev pub stepCount : List Call → ℕ
+stepCount cs = length (wordsOf cs)
 
 abbrev pub recordOf : List Call → Record
-recordOf cs s = getD (words cs) s 0
+recordOf cs s = getD (wordsOf cs) s 0
 
 abbrev pub Over : Record → List Call → Type 0
-Over rec cs = (i : ℕ) → i < steps cs → recordOf cs i ≡ rec i
+Over rec cs = (i : ℕ) → i < stepCount cs → recordOf cs i ≡ rec i
 
 -- ---- many words at once, from step s on: the step and the culprit of the first report, if there is one
 unfoldable pub firstReport : (m : Mon) → State m → ℕ → List ℕ → Option (ℕ × ℤ)

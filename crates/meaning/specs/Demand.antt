@@ -9,11 +9,12 @@ use mathlib.Core.Logic.{_↔_}
 use mathlib.Core.Option.{Option, some}
 use mathlib.Core.Path.{_≡_}
 use Prim.Native.Nat.{ℕ, _≤_, _<_}
+use Rattle.terms.specs.Limits as limits
 use Rattle.formula.specs.Formula.{Formula}
 use Rattle.monitor.specs.Mon.{Mon}
 use Rattle.monitor.specs.Compile.{ruleNode}
 use Rattle.meaning.specs.Alarm.{Record, Alarm, First}
-use Rattle.meaning.specs.Calls.{Call, accepted, AcceptedAt, Below, InOrder, Over, recordOf, steps}
+use Rattle.meaning.specs.Calls.{Call, accepted, AcceptedAt, Below, InOrder, Over, recordOf, stepCount}
 use Rattle.meaning.specs.Logic.{Fails}
 use Rattle.meaning.specs.Meaning.{Sound, NodeSound}
 use Rattle.meaning.specs.Plain.{Plain}
@@ -42,7 +43,7 @@ module _ {Memory Event : Type 0} (k : Machine Memory Event) where
 
   -- an event of which a call is accepted goes over the rule's own table
   abbrev pub Fair : Mon → Event → Memory → Type 0
-  Fair m e mem = 1 ≤ steps (k .calls e mem) → k .Own e m
+  Fair m e mem = 1 ≤ stepCount (k .calls e mem) → k .Own e m
 
   unfoldable pub AllFair : Mon → Memory → List Event → Type 0
   AllFair m mem [] = Unit {0}
@@ -67,7 +68,7 @@ module _ {Memory Event : Type 0} (k : Machine Memory Event) where
         (s : ℕ) → (k .reports e (runAll mem before) ≡ some s) ↔ (AcceptedAt s (k .calls e (runAll mem before)) × First (Alarm m rec) s)
     -- after the list, and after each first part of it
     pub after : (before rest : List Event) → es ≡ before ++ rest →
-        Keeps m Reads rec (steps (callsOf mem before)) (runAll mem before)
+        Keeps m Reads rec (stepCount (callsOf mem before)) (runAll mem before)
 
   -- a plain rule over an endless record
   pub record PlainTells (f : Formula) (m : Mon) (rec : Record) (mem : Memory) : Type 0 where
@@ -85,5 +86,5 @@ module _ {Memory Event : Type 0} (k : Machine Memory Event) where
     -- at every place of a list, an event that is lent enough is accepted, all that it asks for
     pub accepts : (es : List Event) → AllFair m mem es → (e : Event) → Lent m e → k .calls e (runAll mem es) ≡ k .asks e
     -- there is such an event for every step below 2^63 and all truths
-    pub lends : (s w : ℕ) → s < 9223372036854775808 → (e : Event) × Lent m e × (k .asks e ≡ accepted s w ∷ [])
+    pub lends : (s w : ℕ) → s < limits.steps → (e : Event) × Lent m e × (k .asks e ≡ accepted s w ∷ [])
     pub plain : Plain f → (rec : Record) → PlainTells f m rec mem

@@ -17,7 +17,7 @@ use Rattle.monitor.specs.Mon.{Signal, obligation, Mon}
 use Rattle.monitor.specs.Compile.{ruleFaults, ruleNode}
 use Rattle.meaning.specs.Alarm.{Record, during, triggers, windowEnd, Missed, CheckAlarm, Alarm, First}
 use Rattle.meaning.specs.Culprit.{Culprit, Report}
-use Rattle.meaning.specs.State.{ObligationState, State, failed, culprit, fresh, newlyFailed, after, EachNode, EachObligation}
+use Rattle.meaning.specs.State.{ObligationState, State, failed, culprit, initialState, newlyFailed, after, EachNode, EachObligation}
 use Rattle.meaning.specs.Logic.{Holds, Fails}
 
 -- the whole window of max(b, 1) steps from the trigger at t lies among the first k steps, and ran without the body

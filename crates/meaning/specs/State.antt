@@ -1,5 +1,5 @@
 -- A monitor's state, shaped like its node (`MonState` of src/codegen/monitor.rs), and its steps (`initial_state`, `step_node`, `min_trigger_at`).
---     fresh           nothing pending, failed or remembered, every culprit minus 1
+--     initialState    nothing pending, failed or remembered, every culprit minus 1
 --     step m st s w   one call at step s with truths w: the state afterwards, and whether the node is failing now
 --     newlyFailed     what the call reports of the root
 --     after m rec k   the state after the steps 0 to k-1 over a record
@@ -67,19 +67,19 @@ culprit (check c) st = checkCulprit c st
 culprit (And m n) st = st .culprit
 culprit (Or m n) st = st .culprit
 
--- ---- a fresh state
-abbrev pub freshObligation : ObligationState
-freshObligation = record { pending = false; remaining = 0; failed = false; culprit = minus-one }
+-- ---- the state of a fresh monitor (`initial_state`)
+abbrev pub initialObligation : ObligationState
+initialObligation = record { pending = false; remaining = 0; failed = false; culprit = minus-one }
 
-abbrev pub freshCheck : (c : Check) → CheckState c
-freshCheck (range-check p r) = record { failed = false }
-freshCheck (delayed-check p q r) = record { prev-antecedent = false; failed = false }
-freshCheck (obligation b p q r) = freshObligation
+abbrev pub initialCheck : (c : Check) → CheckState c
+initialCheck (range-check p r) = record { failed = false }
+initialCheck (delayed-check p q r) = record { prev-antecedent = false; failed = false }
+initialCheck (obligation b p q r) = initialObligation
 
-abbrev pub fresh : (m : Mon) → State m
-fresh (check c) = freshCheck c
-fresh (And m n) = record { left = fresh m; right = fresh n; failed = false; culprit = minus-one }
-fresh (Or m n) = record { left = fresh m; right = fresh n; failed = false; culprit = minus-one }
+abbrev pub initialState : (m : Mon) → State m
+initialState (check c) = initialCheck c
+initialState (And m n) = record { left = initialState m; right = initialState n; failed = false; culprit = minus-one }
+initialState (Or m n) = record { left = initialState m; right = initialState n; failed = false; culprit = minus-one }
 
 -- ---- one step of an obligation at step s; `due`: its trigger holds and s is in range; `body`: its body holds
 -- a window opens at a trigger when none is open
@@ -107,13 +107,9 @@ unfailedStep (suc b) s due body o =
     let p = opened (o .pending) due (suc b) s o in
     ticked (p .pending) body p
 
-abbrev pub unless : Bool → ObligationState → ObligationState → ObligationState
-unless true o p = o
-unless false o p = p
-
 -- a failed obligation is left as it is
 unfoldable pub obligationStep : (b s : ℕ) (due body : Bool) → ObligationState → ObligationState
-obligationStep b s due body o = unless (o .failed) o (unfailedStep b s due body o)
+obligationStep b s due body o = pick (o .failed) o (unfailedStep b s due body o)
 
 -- ---- the culprit of a joined node at its first alarm (`min_trigger_at`)
 -- a part that is not failing now offers none
@@ -127,6 +123,9 @@ least (pos a) (pos b) = pos (min a b)
 least (pos a) (negsuc b) = pos a
 least (negsuc a) (pos b) = pos b
 least (negsuc a) (negsuc b) = minus-one
+
+abbrev pub minTriggerAt : Bool → ℤ → Bool → ℤ → ℤ
+minTriggerAt left a right b = least (offered left a) (offered right b)
 
 -- ---- one step
 pub record Stepped (S : Type 0) : Type 0 where
@@ -145,13 +144,14 @@ checkStep (obligation b p q r) st s w =
     record { state = next; now = next .failed }
 
 -- a joined node after its parts have stepped; `now`: it is failing now
-unfoldable pub joinedStep : (m n : Mon) → Bool → Stepped (State m) → Stepped (State n) → JoinedState (State m) (State n) → Stepped (JoinedState (State m) (State n))
+unfoldable pub joinedStep : (m n : Mon) → Bool → Stepped (State m) → Stepped (State n) → JoinedState (State m) (State n) →
+    Stepped (JoinedState (State m) (State n))
 joinedStep m n now l r st = record {
   state = record {
     left = l .state;
     right = r .state;
     failed = st .failed || now;
-    culprit = pick (bool.not (st .failed) && now) (least (offered (l .now) (culprit m (l .state))) (offered (r .now) (culprit n (r .state)))) (st .culprit);
+    culprit = pick (bool.not (st .failed) && now) (minTriggerAt (l .now) (culprit m (l .state)) (r .now) (culprit n (r .state))) (st .culprit);
   };
   now = now;
 }
@@ -173,7 +173,7 @@ newlyFailed m st s w = failed m (step m st s w .state) && bool.not (failed m st)
 
 -- the state after the steps 0 to k-1 over a record
 unfoldable pub after : (m : Mon) → Record → ℕ → State m
-after m rec zero = fresh m
+after m rec zero = initialState m
 after m rec (suc k) = step m (after m rec k) k (rec k) .state
 
 -- ---- states that may be handed in

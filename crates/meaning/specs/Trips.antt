@@ -11,7 +11,7 @@ use Rattle.formula.specs.Tree.{leaf, one, two}
 use Rattle.formula.specs.Formula.{Formula, var, next, always, always-for, within, or, implies}
 use Rattle.monitor.specs.Compile.{ruleFaults, ruleNode}
 use Rattle.meaning.specs.Culprit.{minus-one}
-use Rattle.meaning.specs.State.{fresh}
+use Rattle.meaning.specs.State.{initialState}
 use Rattle.meaning.specs.Calls.{firstReport}
 
 pub record Trip : Type 0 where
@@ -65,14 +65,14 @@ sameReport none (some y) = false
 sameReport (some x) none = false
 sameReport (some x) (some y) = eqb (x .0) (y .0) && sameNumber (x .1) (y .1)
 
-abbrev pub compiles : List ℕ → Bool
-compiles [] = true
-compiles (n ∷ ns) = false
+abbrev pub noFaults : List ℕ → Bool
+noFaults [] = true
+noFaults (n ∷ ns) = false
 
 unfoldable pub kept : Trip → Bool
 kept t =
     let m = ruleNode (t .rule) 0 in
-    compiles (ruleFaults (t .rule)) && sameReport (firstReport m (fresh m) 0 (t .truths)) (t .report)
+    noFaults (ruleFaults (t .rule)) && sameReport (firstReport m (initialState m) 0 (t .truths)) (t .report)
 
 unfoldable pub allKept : List Trip → Bool
 allKept [] = true

@@ -11,14 +11,15 @@ use borrow.Author.Tests.{le-leb, leb-true}
 use Rattle.formula.specs.Tree.{Tree, leaf, one, two, treeOf, size, depth, all}
 use Rattle.formula.specs.Spells.{run, Spells}
 use Rattle.formula.specs.Formula.{Formula}
-use Rattle.formula.specs.Table.{IsRule, isSome, ruleOf}
+use Rattle.formula.specs.Table.{IsRule, isSome, keep, ruleOf}
 use Rattle.formula.specs.Walk.{Stands, Walked}
 use Rattle.formula.specs.declared.table.Walk.{Walk}
 use Rattle.formula.specs.declared.table.Walk.the-variants.{Upto, Stuck}
 use Rattle.formula.proofs.Trees.{some-inj, none-some, tree-spells, spells-tree, spells-unique}
 use Rattle.formula.proofs.Walks.{both-true}
+use Rattle.formula.proofs.Rules.{keep-inv}
 use Rattle.monitor.specs.Mon.{Check, Mon}
-use Rattle.monitor.specs.Table.{Never, Join, Cell, cellAt, cellBy, cells, rowOf, fromTree, keepMon, limitedMon, monOf, monBy, compiledOf, anyCheck}
+use Rattle.monitor.specs.Table.{Never, Join, Cell, cellAt, cellBy, cells, rowOf, fromTree, limitedMon, monOf, monBy, compiledOf, anyCheck}
 
 module _ (ops nums : List ℕ) (first count : ℕ) (nodes : List ℕ) (nfirst ncount : ℕ) where
   pub record HoldsTree (f : Formula) (t : Tree Check Never Join) : Type 0 where
@@ -38,17 +39,13 @@ module _ (ops nums : List ℕ) (first count : ℕ) (nodes : List ℕ) (nfirst nc
   unfolding compiledOf monOf
   held f t h =
       ap (λ (o : Option Formula). monBy o first nodes nfirst ncount) (h .rule)
-      ∙ ap₂ (λ (b : Bool) (o : Option Mon). keepMon b o)
+      ∙ ap₂ (λ (b : Bool) (o : Option Mon). keep b o)
       (ap₂ _&&_ (le-leb ncount 256 (h .few)) (le-leb (7 * (nfirst + ncount)) (length nodes) (h .in-nodes)))
       (ap limitedMon
       (ap treeOf (sym (same-cells f (h .rule) nfirst ncount))
       ∙ ap (λ (n : ℕ). treeOf (run (cells ops nums first count nodes) nfirst n)) (sym (h .covers))
       ∙ spells-tree (cells ops nums first count nodes) nfirst t (h .spells))
-      ∙ ap (λ (b : Bool). keepMon b (some (fromTree t))) (le-leb (depth t) 64 (h .shallow)))
-
-  keep-inv : (b : Bool) (o : Option Mon) (m : Mon) → keepMon b o ≡ some m → (b ≡ true) × (o ≡ some m)
-  keep-inv true o m e = (refl, e)
-  keep-inv false o m e = none-some e
+      ∙ ap (λ (b : Bool). keep b (some (fromTree t))) (le-leb (depth t) 64 (h .shallow)))
 
   limited-inv : (o : Option (Tree Check Never Join)) (m : Mon) → limitedMon o ≡ some m → (t : Tree Check Never Join) × (o ≡ some t) × (depth t ≤ 64) × (m ≡ fromTree t)
   limited-inv none m e = none-some e
@@ -109,7 +106,8 @@ module _ (ops nums : List ℕ) (first count : ℕ) (nodes : List ℕ) (nfirst nc
         let m : u ≡ t = spells-unique (cells ops nums first count nodes) nfirst u t (s .spells) (h .spells) in
         n (s .ends ∙ ap (λ (y : Tree Check Never Join). nfirst + size y) m ∙ ap (λ (k : ℕ). nfirst + k) (h .covers))
 
-    pub all-nodes : IsRule ops nums first count → e ≡ nfirst + ncount → ncount ≤ 256 → ncount ≤ length nodes / 7 → nfirst ≤ length nodes / 7 - ncount → true ≡ isSome (compiledOf ops nums first count nodes nfirst ncount)
+    pub all-nodes : IsRule ops nums first count → e ≡ nfirst + ncount → ncount ≤ 256 → ncount ≤ length nodes / 7 → nfirst ≤ length nodes / 7 - ncount
+        → true ≡ isSome (compiledOf ops nums first count nodes nfirst ncount)
     all-nodes u n a b c =
         let (t, s) = x .found e q in
         sym (ap isSome (held (u .formula) t (record { rule = u .is; few = a; in-nodes = end-inside b c; spells = s .spells; covers = omega (arith, s .ends); shallow = s .shallow })))

@@ -2,5 +2,6 @@
 pub mod Ranges
 pub mod Rows
 pub mod Parts
+pub mod Signals
 pub mod Tables
 pub mod Holds

@@ -59,10 +59,12 @@ module _ (l l′ : List ℕ) (at : ℕ) (n : MonNode) where
   pub arm-range : (s : SignalExpr) (r : AnchorRange) (x : ℕ) → n ≡ RangeCheck s r → x ≡ exprNumber s → l′ ≡ sets l (7 * at) (row 0 0 r x 0) → l′ ≡ sets l (7 * at) (nodeRow n)
   arm-range s r x e p q = q ∙ ap (λ (z : ℕ). sets l (7 * at) (row 0 0 r z 0)) p ∙ sym (ap (λ (z : MonNode). sets l (7 * at) (nodeRow z)) e)
 
-  pub arm-delayed : (s t : SignalExpr) (r : AnchorRange) (x y : ℕ) → n ≡ DelayedCheck s t r → x ≡ exprNumber s → y ≡ exprNumber t → l′ ≡ sets l (7 * at) (row 1 0 r x y) → l′ ≡ sets l (7 * at) (nodeRow n)
+  pub arm-delayed : (s t : SignalExpr) (r : AnchorRange) (x y : ℕ) → n ≡ DelayedCheck s t r → x ≡ exprNumber s → y ≡ exprNumber t → l′ ≡ sets l (7 * at) (row 1 0 r x y)
+      → l′ ≡ sets l (7 * at) (nodeRow n)
   arm-delayed s t r x y e p p′ q = q ∙ ap₂ (λ (z w : ℕ). sets l (7 * at) (row 1 0 r z w)) p p′ ∙ sym (ap (λ (z : MonNode). sets l (7 * at) (nodeRow z)) e)
 
-  pub arm-owed : (b : ℕ) (s t : SignalExpr) (r : AnchorRange) (x y : ℕ) → n ≡ Obligation b s t r → x ≡ exprNumber s → y ≡ exprNumber t → l′ ≡ sets l (7 * at) (row 2 b r x y) → l′ ≡ sets l (7 * at) (nodeRow n)
+  pub arm-owed : (b : ℕ) (s t : SignalExpr) (r : AnchorRange) (x y : ℕ) → n ≡ Obligation b s t r → x ≡ exprNumber s → y ≡ exprNumber t → l′ ≡ sets l (7 * at) (row 2 b r x y)
+      → l′ ≡ sets l (7 * at) (nodeRow n)
   arm-owed b s t r x y e p p′ q = q ∙ ap₂ (λ (z w : ℕ). sets l (7 * at) (row 2 b r z w)) p p′ ∙ sym (ap (λ (z : MonNode). sets l (7 * at) (nodeRow z)) e)
 
   pub arm-and : (r : AnchorRange) → n ≡ AndNode → r ≡ rangeFrom 0 0 0 → l′ ≡ sets l (7 * at) (row 3 0 r 0 0) → l′ ≡ sets l (7 * at) (nodeRow n)

@@ -12,7 +12,7 @@ use Rattle.terms.specs.Choice.{pick}
 use Rattle.formula.specs.Tree.{Tree, leaf, one, two, Token, leaf-of, one-of, two-of, unknown, treeOf, size, depth, all}
 use Rattle.formula.specs.Spells.{run, Spells}
 use Rattle.formula.specs.Formula.{Formula}
-use Rattle.formula.specs.Table.{nodeAt, Rule, IsRule, Placed, isSome, ruleOf}
+use Rattle.formula.specs.Table.{nodeAt, Rule, IsRule, Placed, isSome, keep, ruleOf}
 use Rattle.formula.specs.Pure.{pure}
 use Rattle.formula.specs.Signal.{Purely}
 use Rattle.formula.specs.Walk.{Stands, Walked}
@@ -32,7 +32,7 @@ use Rattle.monitor.specs.declared.range.AnchorRange.{AnchorRange}
 use Rattle.monitor.specs.declared.table.Kind.{Kind}
 use Rattle.monitor.specs.declared.table.Kind.the-variants.{Check as Check′, Joined, Unknown as Unknown′}
 use Rattle.monitor.specs.Mon.{Signal, always-true, at, Check, delayed-check, obligation, Mon}
-use Rattle.monitor.specs.Table.{rowOf, subAt, keepPure, keepSignal, signalOf, signalBy, Never, Join, Cell, checked, cellOf, cellAt, cellBy, cells, fromTree, keepMon, limitedMon, monOf, monBy, compiledOf, kindOf, anyCheck}
+use Rattle.monitor.specs.Table.{rowOf, subAt, pureSignal, signalOf, signalBy, Never, Join, Cell, checked, cellOf, cellAt, cellBy, cells, fromTree, limitedMon, monOf, monBy, compiledOf, kindOf, anyCheck}
 use Rattle.monitor.proofs.Parts.{FormulaPart, part-at, no-part}
 
 -- ---- signals
@@ -44,10 +44,10 @@ module _ (ops nums : List ℕ) (first count p : ℕ) (u : IsRule ops nums first 
   by-rule e = ap (λ (o : Option Formula). signalBy o first e) (u .is)
 
   pub before-rule : p < first → false ≡ isSome (signalBy (ruleOf ops nums first count) first (At p))
-  before-rule h = sym (ap isSome (by-rule (At p) ∙ ap (λ (b : Bool). keepSignal b (keepPure p (subAt (u .formula) (p - first)))) (lt-leb first p h)))
+  before-rule h = sym (ap isSome (by-rule (At p) ∙ ap (λ (b : Bool). keep b (pureSignal p (subAt (u .formula) (p - first)))) (lt-leb first p h)))
 
   pub past-rule : first ≤ p → count ≤ p - first → false ≡ isSome (signalBy (ruleOf ops nums first count) first (At p))
-  past-rule g h = sym (ap isSome (by-rule (At p) ∙ ap₂ (λ (b : Bool) (o : Option Formula). keepSignal b (keepPure p o)) (le-leb first p g) (no-part (u .formula) (p - first) (omega (arith, rule .covers)))))
+  past-rule g h = sym (ap isSome (by-rule (At p) ∙ ap₂ (λ (b : Bool) (o : Option Formula). keep b (pureSignal p o)) (le-leb first p g) (no-part (u .formula) (p - first) (omega (arith, rule .covers)))))
 
   module _ (g : first ≤ p) (h : p - first < count) where
     part : FormulaPart (nodeAt ops nums) first (u .formula) (p - first)
@@ -59,13 +59,13 @@ module _ (ops nums : List ℕ) (first count p : ℕ) (u : IsRule ops nums first 
     pub placed-part : Placed ops nums p
     placed-part = record { formula = part .part; spells = there; in-ops = omega (arith, rule .in-ops, rule .covers, part .inside); in-nums = omega (arith, rule .in-nums, rule .covers, part .inside) }
 
-    named : signalBy (ruleOf ops nums first count) first (At p) ≡ keepPure p (some (part .part))
-    named = by-rule (At p) ∙ ap₂ (λ (b : Bool) (o : Option Formula). keepSignal b (keepPure p o)) (le-leb first p g) (part .is)
+    named : signalBy (ruleOf ops nums first count) first (At p) ≡ pureSignal p (some (part .part))
+    named = by-rule (At p) ∙ ap₂ (λ (b : Bool) (o : Option Formula). keep b (pureSignal p o)) (le-leb first p g) (part .is)
 
-    some-if : (f : Formula) → isSome (keepPure p (some f)) ≡ pure f
+    some-if : (f : Formula) → isSome (pureSignal p (some f)) ≡ pure f
     some-if f = go (pure f) refl
       where
-        go : (b : Bool) → pure f ≡ b → isSome (keepPure p (some f)) ≡ pure f
+        go : (b : Bool) → pure f ≡ b → isSome (pureSignal p (some f)) ≡ pure f
         go true e = rw e refl
         go false e = rw e refl
 
@@ -87,7 +87,8 @@ one-signal : (x : Option Signal) (k : Signal → Cell) → ((y : Signal) → kin
 one-signal none k h = refl
 one-signal (some y) k h = h y
 
-two-signals : (x y : Option Signal) (k : Signal → Signal → Cell) → ((a b : Signal) → kindOf (k a b) ≡ Check′) → kindOf (checked (λ a. checked (λ b. k a b) y) x) ≡ pick (isSome x) (pick (isSome y) Check′ Unknown′) Unknown′
+two-signals : (x y : Option Signal) (k : Signal → Signal → Cell) → ((a b : Signal) → kindOf (k a b) ≡ Check′)
+    → kindOf (checked (λ a. checked (λ b. k a b) y) x) ≡ pick (isSome x) (pick (isSome y) Check′ Unknown′) Unknown′
 two-signals none y k h = refl
 two-signals (some a) y k h = one-signal y (λ b. k a b) (λ b. h a b)
 
@@ -95,11 +96,13 @@ kind-range : (o : Option Formula) (first : ℕ) (s : SignalExpr) (r : AnchorRang
 kind-range none first s r = refl
 kind-range (some f) first s r = one-signal (signalOf f first s) _ (λ y. refl)
 
-kind-delayed : (o : Option Formula) (first : ℕ) (s t : SignalExpr) (r : AnchorRange) → kindOf (cellBy o first (Node (DelayedCheck s t r))) ≡ pick (isSome (signalBy o first s)) (pick (isSome (signalBy o first t)) Check′ Unknown′) Unknown′
+kind-delayed : (o : Option Formula) (first : ℕ) (s t : SignalExpr) (r : AnchorRange)
+    → kindOf (cellBy o first (Node (DelayedCheck s t r))) ≡ pick (isSome (signalBy o first s)) (pick (isSome (signalBy o first t)) Check′ Unknown′) Unknown′
 kind-delayed none first s t r = refl
 kind-delayed (some f) first s t r = two-signals (signalOf f first s) (signalOf f first t) (λ a b. leaf-of (delayed-check a b r)) (λ a b. refl)
 
-kind-owed : (o : Option Formula) (first b : ℕ) (s t : SignalExpr) (r : AnchorRange) → kindOf (cellBy o first (Node (Obligation b s t r))) ≡ pick (isSome (signalBy o first s)) (pick (isSome (signalBy o first t)) Check′ Unknown′) Unknown′
+kind-owed : (o : Option Formula) (first b : ℕ) (s t : SignalExpr) (r : AnchorRange)
+    → kindOf (cellBy o first (Node (Obligation b s t r))) ≡ pick (isSome (signalBy o first s)) (pick (isSome (signalBy o first t)) Check′ Unknown′) Unknown′
 kind-owed none first b s t r = refl
 kind-owed (some f) first b s t r = two-signals (signalOf f first s) (signalOf f first t) (λ x y. leaf-of (obligation b x y r)) (λ x y. refl)
 

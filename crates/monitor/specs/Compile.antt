@@ -8,7 +8,7 @@ use Prim.Native.Nat.{ℕ, _+_, _-_}
 use lib.Dec.{eqb}
 use Rattle.formula.specs.Tree.{leaf, one, two, size}
 use Rattle.formula.specs.Formula.{Formula, not, next, always, eventually, always-for, within, and, or, implies, until}
-use Rattle.formula.specs.Pure.{pure}
+use Rattle.formula.specs.Pure.{pure, unless}
 use Rattle.monitor.specs.declared.range.AnchorRange.{AnchorRange}
 use Rattle.monitor.specs.Range.{allOf, uptoOf, shiftedOf}
 use Rattle.monitor.specs.Mon.{always-true, at, Check, range-check, delayed-check, obligation, Mon, check, And, Or}
@@ -17,10 +17,6 @@ use Rattle.monitor.specs.Mon.{always-true, at, Check, range-check, delay
 abbrev pub when : Bool → ℕ → List ℕ
 when true n = n ∷ []
 when false n = []
-
-abbrev pub unless : Bool → ℕ → List ℕ
-unless true n = []
-unless false n = n ∷ []
 
 -- the right part of `implies`
 unfoldable pub consequent : Formula → List ℕ

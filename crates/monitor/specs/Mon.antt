@@ -4,6 +4,8 @@ use mathlib.Core.List.{List, [], _∷_, _++_}
 use Prim.Native.Nat.{ℕ, _+_}
 use lib.Dec.{ltb}
 use Rattle.terms.specs.Choice.{pick}
+use Rattle.terms.specs.Ops.{orOp}
+use Rattle.terms.specs.Forms.{rangeForm, delayedForm, obligationForm, andForm, orForm}
 use Rattle.formula.specs.Formula.{Formula}
 use Rattle.monitor.specs.declared.range.End.{End}
 use Rattle.monitor.specs.declared.range.End.the-variants.{Step, Open}
@@ -39,7 +41,7 @@ count (And m n) = 1 + count m + count n
 count (Or m n) = 1 + count m + count n
 
 -- ---- a node in a table: form, bound, first step, 1 where the range has a last step, that step, two signals.
--- A form is 0 for a range check, 1 delayed, 2 obligation, 3 and, 4 or; a signal is 0 for the constant true, else its place and one
+-- A signal is 0 for the constant true, else its place and one
 abbrev pub exprNumber : SignalExpr → ℕ
 exprNumber True = 0
 exprNumber (At p) = p + 1
@@ -59,15 +61,15 @@ abbrev pub joinRow : ℕ → List ℕ
 joinRow form = form ∷ 0 ∷ 0 ∷ 0 ∷ 0 ∷ 0 ∷ 0 ∷ []
 
 abbrev pub nodeRow : MonNode → List ℕ
-nodeRow (RangeCheck s r) = row 0 0 r (exprNumber s) 0
-nodeRow (DelayedCheck s t r) = row 1 0 r (exprNumber s) (exprNumber t)
-nodeRow (Obligation b s t r) = row 2 b r (exprNumber s) (exprNumber t)
-nodeRow AndNode = joinRow 3
-nodeRow OrNode = joinRow 4
+nodeRow (RangeCheck s r) = row rangeForm 0 r (exprNumber s) 0
+nodeRow (DelayedCheck s t r) = row delayedForm 0 r (exprNumber s) (exprNumber t)
+nodeRow (Obligation b s t r) = row obligationForm b r (exprNumber s) (exprNumber t)
+nodeRow AndNode = joinRow andForm
+nodeRow OrNode = joinRow orForm
 
--- the node that a word joins its parts by: up to 9 it is and, past that or
+-- the node that a word joins its parts by: below or's number it is and, from there on or
 abbrev pub joinNode : ℕ → MonNode
-joinNode op = pick (ltb op 10) AndNode OrNode
+joinNode op = pick (ltb op orOp) AndNode OrNode
 
 -- a check as the code holds it: its signals by their places
 abbrev pub exprOf : Signal → SignalExpr

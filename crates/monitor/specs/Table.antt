@@ -11,12 +11,13 @@ use mathlib.Core.Option.{Option, none, some}
 use Prim.Native.Nat.{ℕ, zero, suc, _+_, _-_, _*_, _<_, _^_}
 use lib.Dec.{leb, ltb, eqb}
 use lib.ListN.{length, getD}
-use Rattle.terms.specs.Limits.{deepest, ruleNodes}
+use Rattle.terms.specs.Limits.{deepest, rowCells, ruleNodes}
 use Rattle.terms.specs.Choice.{pick}
+use Rattle.terms.specs.Forms.{delayedForm, obligationForm, andForm, orForm, forms}
 use Rattle.formula.specs.Tree.{Tree, leaf, one, two, Token, leaf-of, one-of, two-of, unknown, treeOf, size, depth}
 use Rattle.formula.specs.Spells.{run}
 use Rattle.formula.specs.Formula.{Formula}
-use Rattle.formula.specs.Table.{ruleOf}
+use Rattle.formula.specs.Table.{keep, ruleOf}
 use Rattle.formula.specs.Pure.{pure}
 use Rattle.monitor.specs.declared.range.End.{End}
 use Rattle.monitor.specs.declared.range.End.the-variants.{Step, Open}
@@ -52,10 +53,10 @@ rangeFrom from has to = record { from = from; to = pick (eqb has 0) Open (Step t
 
 -- the form of row i, and the number at column j behind it
 abbrev pub formAt : List ℕ → ℕ → ℕ
-formAt nodes i = getD nodes (7 * i) 0
+formAt nodes i = getD nodes (rowCells * i) 0
 
 abbrev pub cell : List ℕ → ℕ → ℕ → ℕ
-cell nodes i j = getD nodes (7 * i + j) 0
+cell nodes i j = getD nodes (rowCells * i + j) 0
 
 unfoldable pub rowOf : List ℕ → ℕ → Row
 rowOf nodes i =
@@ -63,11 +64,11 @@ rowOf nodes i =
     let r = rangeFrom (cell nodes i 2) (cell nodes i 3) (cell nodes i 4) in
     let s = exprFrom (cell nodes i 5) in
     let t = exprFrom (cell nodes i 6) in
-    pick (ltb form 1) (Node (RangeCheck s r))
-    (pick (ltb form 2) (Node (DelayedCheck s t r))
-    (pick (ltb form 3) (Node (Obligation (cell nodes i 1) s t r))
-    (pick (ltb form 4) (Node AndNode)
-    (pick (ltb form 5) (Node OrNode) Unknown))))
+    pick (ltb form delayedForm) (Node (RangeCheck s r))
+    (pick (ltb form obligationForm) (Node (DelayedCheck s t r))
+    (pick (ltb form andForm) (Node (Obligation (cell nodes i 1) s t r))
+    (pick (ltb form orForm) (Node AndNode)
+    (pick (ltb form forms) (Node OrNode) Unknown))))
 
 -- ---- the signals
 -- the part of a formula whose node is number k in prefix order
@@ -79,22 +80,15 @@ subAt (one o f) (suc k) = subAt f k
 subAt (two o l r) zero = some (two o l r)
 subAt (two o l r) (suc k) = pick (ltb k (size l)) (subAt l k) (subAt r (k - size l))
 
-abbrev pub keepPure : ℕ → Option Formula → Option Signal
-keepPure p none = none
-keepPure p (some g) = pickSignal (pure g)
-  where
-    pickSignal : Bool → Option Signal
-    pickSignal true = some (at p g)
-    pickSignal false = none
-
-abbrev pub keepSignal : Bool → Option Signal → Option Signal
-keepSignal true s = s
-keepSignal false s = none
+-- a pure formula, which stands at p, as a signal
+abbrev pub pureSignal : ℕ → Option Formula → Option Signal
+pureSignal p none = none
+pureSignal p (some g) = keep (pure g) (some (at p g))
 
 -- the signal that a row names: the constant true, or a pure part of the formula f, which stands at `first` of its table
 abbrev pub signalOf : Formula → ℕ → SignalExpr → Option Signal
 signalOf f first True = some always-true
-signalOf f first (At p) = keepSignal (leb first p) (keepPure p (subAt f (p - first)))
+signalOf f first (At p) = keep (leb first p) (pureSignal p (subAt f (p - first)))
 
 -- ---- the tree
 pub data Never : Type 0 where
@@ -129,17 +123,13 @@ fromTree (one n t) = elim n [ ]
 fromTree (two join-and l r) = And (fromTree l) (fromTree r)
 fromTree (two join-or l r) = Or (fromTree l) (fromTree r)
 
-abbrev pub keepMon : Bool → Option Mon → Option Mon
-keepMon true m = m
-keepMon false m = none
-
 abbrev pub limitedMon : Option (Tree Check Never Join) → Option Mon
 limitedMon none = none
-limitedMon (some t) = keepMon (leb (depth t) deepest) (some (fromTree t))
+limitedMon (some t) = keep (leb (depth t) deepest) (some (fromTree t))
 
 unfoldable pub monOf : Formula → ℕ → List ℕ → ℕ → ℕ → Option Mon
 monOf f first nodes nfirst ncount =
-    keepMon (leb ncount ruleNodes && leb (7 * (nfirst + ncount)) (length nodes))
+    keep (leb ncount ruleNodes && leb (rowCells * (nfirst + ncount)) (length nodes))
     (limitedMon (treeOf (run (cellAt f first nodes) nfirst ncount)))
 
 -- ---- the two tables together: the rule's formula, and the compiled rule over it

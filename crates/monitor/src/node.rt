@@ -3,13 +3,16 @@ use crate::range::AnchorRange;
 use crate::range::End;
 use terms::form::AND;
 use terms::form::DELAYED;
+use terms::form::FORMS;
 use terms::form::OBLIGATION;
 use terms::form::OR;
 use terms::form::RANGE;
+use terms::limit::ROW_CELLS;
 ghost use mathlib.Core.Path.{_≡_};
 ghost use Prim.Native.Nat.{_+_, _*_, _≤_};
 ghost use lib.ListN.{length};
 ghost use lib.Seq.{sets};
+ghost use Rattle.terms.specs.Limits.{rowCells};
 ghost use Rattle.monitor.specs.Mon.{exprNumber, hasLast, lastOf, row, nodeRow};
 ghost use Rattle.monitor.specs.Table.{exprFrom, rangeFrom, rowOf, Numbered, NodeNumbered};
 
@@ -76,10 +79,10 @@ fn last_of(to: End) -> u64
 
 // Stores a node's seven numbers.
 fn put_row(out: &mut [u64], at: usize, form: u64, bound: u64, range: AnchorRange, s: u64, t: u64)
-    requires { ⌜ 7 * (at + 1) ≤ length (now out) ⌝ }
-    ensures { λ _. ⌜ now (out .exit) ≡ sets (now (out .entry)) (7 * at) (row form bound range s t) ⌝ }
+    requires { ⌜ rowCells * (at + 1) ≤ length (now out) ⌝ }
+    ensures { λ _. ⌜ now (out .exit) ≡ sets (now (out .entry)) (rowCells * at) (row form bound range s t) ⌝ }
 {
-    let i = 7 * at;
+    let i = ROW_CELLS * at;
     let from = range.from;
     let to = range.to;
     let has = has_last(to);
@@ -95,8 +98,8 @@ fn put_row(out: &mut [u64], at: usize, form: u64, bound: u64, range: AnchorRange
 
 // Stores a node as row `at`.
 pub fn put_node(out: &mut [u64], at: usize, node: MonNode)
-    requires { ⌜ (7 * (at + 1) ≤ length (now out)) × NodeNumbered node ⌝ }
-    ensures { λ _. ⌜ now (out .exit) ≡ sets (now (out .entry)) (7 * at) (nodeRow node) ⌝ }
+    requires { ⌜ (rowCells * (at + 1) ≤ length (now out)) × NodeNumbered node ⌝ }
+    ensures { λ _. ⌜ now (out .exit) ≡ sets (now (out .entry)) (rowCells * at) (nodeRow node) ⌝ }
 {
     match node {
         MonNode::RangeCheck { expr, range } => {
@@ -166,18 +169,18 @@ fn range_from(from: u64, has: u64, to: u64) -> AnchorRange
 
 // The node in row i.
 pub fn row_at(nodes: &[u64], i: usize) -> Row
-    requires { ⌜ 7 * (i + 1) ≤ length (now nodes) ⌝ }
+    requires { ⌜ rowCells * (i + 1) ≤ length (now nodes) ⌝ }
     ensures { λ r. ⌜ r ≡ rowOf (now (nodes .entry)) i ⌝ }
 {
-    let k = 7 * i;
+    let k = ROW_CELLS * i;
     let form = nodes[k];
-    if 5 <= form {
+    if FORMS <= form {
         return Row::Unknown;
     }
-    if 4 <= form {
+    if OR <= form {
         return Row::Node(MonNode::Or);
     }
-    if 3 <= form {
+    if AND <= form {
         return Row::Node(MonNode::And);
     }
     let range = range_from(nodes[k + 2], nodes[k + 3], nodes[k + 4]);

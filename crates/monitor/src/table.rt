@@ -3,14 +3,16 @@ use crate::node::MonNode;
 use crate::node::Row;
 use crate::node::SignalExpr;
 use crate::node::row_at;
-use formula::signal::pure_at;
+use formula::signal::boolean_over_atoms;
 use formula::table::Walk;
 use formula::table::is_rule;
 use terms::limit::DEEPEST;
+use terms::limit::ROW_CELLS;
 use terms::limit::RULE_NODES;
 ghost use mathlib.Core.Path.{_≡_};
 ghost use Prim.Native.Nat.{_+_, _*_, _≤_};
 ghost use lib.ListN.{length};
+ghost use Rattle.terms.specs.Limits.{rowCells};
 ghost use Rattle.formula.specs.Table.{IsRule, isSome, ruleOf};
 ghost use Rattle.formula.specs.Walk.{Walked};
 ghost use Rattle.monitor.specs.Table.{signalBy, cellBy, cells, kindOf, anyCheck, compiledOf};
@@ -26,7 +28,7 @@ fn is_pure_part(ops: &[u8], nums: &[u64], first: usize, count: usize, p: usize) 
     if count <= p - first {
         return false;
     }
-    let Walk::Upto(_) = pure_at(ops, nums, p) else {
+    let Walk::Upto(_) = boolean_over_atoms(ops, nums, p) else {
         return false;
     };
     true
@@ -96,7 +98,7 @@ fn kind_of(ops: &[u8], nums: &[u64], first: usize, count: usize, node: MonNode) 
 }
 
 fn kind_at(ops: &[u8], nums: &[u64], first: usize, count: usize, nodes: &[u64], i: usize) -> Kind
-    requires { ⌜ IsRule (now ops) (now nums) first count × (7 * (i + 1) ≤ length (now nodes)) ⌝ }
+    requires { ⌜ IsRule (now ops) (now nums) first count × (rowCells * (i + 1) ≤ length (now nodes)) ⌝ }
     ensures { λ r. ⌜ r ≡ kindOf (cells (now (ops .entry)) (now (nums .entry)) first count (now (nodes .entry)) i) ⌝ }
 {
     let Row::Node(node) = row_at(nodes, i) else {
@@ -116,7 +118,7 @@ fn nodes_at(
     end: usize,
     room: usize,
 ) -> Walk
-    requires { ⌜ IsRule (now ops) (now nums) first count × (7 * end ≤ length (now nodes)) ⌝ }
+    requires { ⌜ IsRule (now ops) (now nums) first count × (rowCells * end ≤ length (now nodes)) ⌝ }
     ensures { λ r. ⌜ Walked (cells (now (ops .entry)) (now (nums .entry)) first count (now (nodes .entry))) anyCheck i end room r ⌝ }
 {
     if end <= i {
@@ -176,7 +178,7 @@ fn has_nodes(
     if RULE_NODES < ncount {
         return false;
     }
-    let rows = nodes.len() / 7;
+    let rows = nodes.len() / ROW_CELLS;
     if rows < ncount {
         return false;
     }

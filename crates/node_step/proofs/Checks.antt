@@ -13,6 +13,7 @@ use lib.Seq.{set-getD, set-set}
 use mir.Syntax.{w64}
 use mir.Val.{toZ}
 use mir.Facts.{toZ-pos}
+use Rattle.terms.specs.Choice.{pick}
 use Rattle.formula.specs.Signal.{Signalled, Valued}
 use Rattle.formula.specs.declared.signal.Value.{Value}
 use Rattle.formula.specs.Formula.{Formula}
@@ -24,10 +25,10 @@ use Rattle.monitor.specs.declared.node.MonNode.the-variants.{RangeCheck, Delaye
 use Rattle.monitor.specs.Range.{containsOf}
 use Rattle.monitor.specs.Mon.{Signal, always-true, at, Check, range-check, delayed-check, obligation, exprOf, nodeOf}
 use Rattle.meaning.specs.Alarm.{truth}
-use Rattle.meaning.specs.State.{ObligationState, CheckShaped, WellKept, checkStep, opened, ticked, atOnce, unfailedStep, unless, obligationStep}
-use Rattle.node_step.specs.declared.state.NodeState.{NodeState}
-use Rattle.node_step.specs.Memory.{Memory, get, put, Inside}
-use Rattle.node_step.specs.Check.{obligationOf, entryOf, readCheck, writeCheck, Grounded, Named, Says, GroundedCheck, Steppable, Checkable, CheckStepped, DelayedNow, Due, Openable, Opened, Tickable, Ticked, AtOnce, DoneAtOnce}
+use Rattle.meaning.specs.State.{ObligationState, CheckShaped, WellKept, checkStep, opened, ticked, atOnce, unfailedStep, obligationStep}
+use Rattle.node_step.specs.declared.state.MonState.{MonState}
+use Rattle.node_step.specs.Memory.{Memory, get, put, Inside, entries}
+use Rattle.node_step.specs.Check.{obligationOf, entryOf, readCheck, writeCheck, Grounded, Named, SignalSays, GroundedCheck, Steppable, Checkable, CheckStepped, DelayedNow, TriggerDue, Openable, Opened, Tickable, Ticked, AtOnce, DoneAtOnce}
 use Rattle.node_step.proofs.Entries.{get-put-same, inside-put, put-get}
 
 -- ---- signals
@@ -38,7 +39,7 @@ true-at : {p : ℕ} {B : Type 0} → True ≡ At p → B
 true-at e = let z : _≡_ {A = ℕ} 0 1 = cc in absurd (omega arith)
 
 module _ (ops nums : List ℕ) (e : SignalExpr) (w : ℕ) where
-  pub says-true : e ≡ True → Says ops nums e w true
+  pub says-true : e ≡ True → SignalSays ops nums e w true
   unfolding truth
   says-true q = record { is = go }
     where
@@ -55,7 +56,7 @@ module _ (ops nums : List ℕ) (e : SignalExpr) (w : ℕ) where
   pub signal-here : (p : ℕ) → Named ops nums e → e ≡ At p → Signalled ops nums p
   signal-here p n q = signalled (n .signal) p (n .is ∙ q) (n .stands) .2
 
-  pub says-value : (p : ℕ) (v : Value) → e ≡ At p → Valued ops nums p w v → Says ops nums e w (v .value)
+  pub says-value : (p : ℕ) (v : Value) → e ≡ At p → Valued ops nums p w v → SignalSays ops nums e w (v .value)
   unfolding truth
   says-value p v q k = record { is = go }
     where
@@ -67,13 +68,13 @@ module _ (ops nums : List ℕ) (e : SignalExpr) (w : ℕ) where
 
 -- ---- ranges
 module _ (ops nums : List ℕ) (e : SignalExpr) (r : AnchorRange) (s w : ℕ) (b : Bool) (h : b ≡ containsOf r s) where
-  pub due-in : (t : Bool) → b ≡ true → Says ops nums e w t → Due ops nums e r s w t
+  pub due-in : (t : Bool) → b ≡ true → SignalSays ops nums e w t → TriggerDue ops nums e r s w t
   due-in t q k = record { is = λ x u g. k .is x u g ∙ ap (λ (y : Bool). y && truth x w) (sym q ∙ h) }
 
-  pub due-out : b ≡ false → Due ops nums e r s w false
+  pub due-out : b ≡ false → TriggerDue ops nums e r s w false
   due-out q = record { is = λ x u g. ap (λ (y : Bool). y && truth x w) (sym q ∙ h) }
 
-  module _ (st : NodeState) (f : st .failed ≡ false) where
+  module _ (st : MonState) (f : st .failed ≡ false) where
     pub delayed-out : b ≡ false → DelayedNow ops nums e r st s w false
     delayed-out q = record {
       is = λ x u g.
@@ -89,7 +90,7 @@ module _ (ops nums : List ℕ) (e : SignalExpr) (r : AnchorRange) (s w : ℕ) (b
           ∙ ap (λ (y : Bool). y && bool.not (truth x w)) k);
     }
 
-    module _ (q : b ≡ true) (k : st .held ≡ true) (t : Bool) (v : Says ops nums e w t) where
+    module _ (q : b ≡ true) (k : st .held ≡ true) (t : Bool) (v : SignalSays ops nums e w t) where
       delayed-by : (x : Signal) → exprOf x ≡ e → Grounded ops nums x → (st .failed || (containsOf r s && (st .held && bool.not (truth x w)))) ≡ bool.not t
       delayed-by x u g =
           ap (λ (y : Bool). y || (containsOf r s && (st .held && bool.not (truth x w)))) f
@@ -103,11 +104,11 @@ module _ (ops nums : List ℕ) (e : SignalExpr) (r : AnchorRange) (s w : ℕ) (b
       pub delayed-missed : t ≡ false → DelayedNow ops nums e r st s w true
       delayed-missed z = record { is = λ x u g. sym (delayed-by x u g ∙ ap bool.not z) }
 
-pub delayed-failed : (ops nums : List ℕ) (e : SignalExpr) (r : AnchorRange) (s w : ℕ) (st : NodeState) → st .failed ≡ true → DelayedNow ops nums e r st s w true
+pub delayed-failed : (ops nums : List ℕ) (e : SignalExpr) (r : AnchorRange) (s w : ℕ) (st : MonState) → st .failed ≡ true → DelayedNow ops nums e r st s w true
 delayed-failed ops nums e r s w st f = record { is = λ x u g. sym (ap (λ (y : Bool). y || (containsOf r s && (st .held && bool.not (truth x w)))) f) }
 
 -- ---- what a check's signals are named by
-module _ (ops nums : List ℕ) (st : NodeState) (s : ℕ) where
+module _ (ops nums : List ℕ) (st : MonState) (s : ℕ) where
   pub range-signal : (e : SignalExpr) (r : AnchorRange) → Steppable ops nums (RangeCheck e r) st s → Named ops nums e
   range-signal e r d = go (d .check) (d .is) (d .stands)
     where
@@ -211,14 +212,14 @@ module _ (ops nums : List ℕ) (mem : Memory) (k s w : ℕ) where
     pub range-out : (b : Bool) → b ≡ containsOf r s → b ≡ false → CheckStepped ops nums (RangeCheck e r) mem k s w mem false
     range-out b h q = quiet (λ x u g. ap (λ (y : Bool). y && bool.not (truth x w)) (sym h ∙ q))
 
-    module _ (b t : Bool) (h : b ≡ containsOf r s) (q : b ≡ true) (v : Says ops nums e w t) where
+    module _ (b t : Bool) (h : b ≡ containsOf r s) (q : b ≡ true) (v : SignalSays ops nums e w t) where
       by : (x : Signal) → exprOf x ≡ e → Grounded ops nums x → rangeNow x ≡ bool.not t
       by x u g = ap (λ (y : Bool). y && bool.not (truth x w)) (sym h ∙ q) ∙ ap bool.not (sym (v .is x u g))
 
       pub range-holds : t ≡ true → CheckStepped ops nums (RangeCheck e r) mem k s w mem false
       range-holds z = quiet (λ x u g. by x u g ∙ ap bool.not z)
 
-      pub range-fails : t ≡ false → CheckStepped ops nums (RangeCheck e r) mem k s w (record { held = mem .held; remaining = mem .remaining; failed = set (mem .failed) k true; culprits = mem .culprits }) true
+      pub range-fails : t ≡ false → CheckStepped ops nums (RangeCheck e r) mem k s w (entries (mem .held) (mem .remaining) (set (mem .failed) k true) (mem .culprits)) true
       range-fails z = range-by _ true λ x u g.
           let n : rangeNow x ≡ true = by x u g ∙ ap bool.not z in (
             λ i. record {
@@ -231,7 +232,9 @@ module _ (ops nums : List ℕ) (mem : Memory) (k s w : ℕ) where
           )
 
   -- ---- a delayed check
-  pub delayed-steps : (e e′ : SignalExpr) (r : AnchorRange) (st : NodeState) (n t : Bool) → st ≡ get mem k → DelayedNow ops nums e′ r st s w n → Says ops nums e w t → CheckStepped ops nums (DelayedCheck e e′ r) mem k s w (record { held = set (mem .held) k t; remaining = mem .remaining; failed = set (mem .failed) k n; culprits = mem .culprits }) n
+  pub delayed-steps : (e e′ : SignalExpr) (r : AnchorRange) (st : MonState) (n t : Bool) → st ≡ get mem k → DelayedNow ops nums e′ r st s w n
+      → SignalSays ops nums e w t
+      → CheckStepped ops nums (DelayedCheck e e′ r) mem k s w (entries (set (mem .held) k t) (mem .remaining) (set (mem .failed) k n) (mem .culprits)) n
   unfolding checkStep
   delayed-steps e e′ r st n t l f v = record { is = go }
     where
@@ -244,12 +247,12 @@ module _ (ops nums : List ℕ) (mem : Memory) (k s w : ℕ) where
       second-eq : {a b a′ b′ : SignalExpr} {x y : AnchorRange} → DelayedCheck a a′ x ≡ DelayedCheck b b′ y → a′ ≡ b′
       second-eq h = cc
 
-      go : (c : Check) → nodeOf c ≡ DelayedCheck e e′ r → GroundedCheck ops nums c → (_≡_ {A = Memory} (record { held = set (mem .held) k t; remaining = mem .remaining; failed = set (mem .failed) k n; culprits = mem .culprits }) (put mem k (writeCheck c (checkStep c (readCheck c (get mem k)) s w .state) (get mem k)))) × (n ≡ checkStep c (readCheck c (get mem k)) s w .now)
+      go : (c : Check) → nodeOf c ≡ DelayedCheck e e′ r → GroundedCheck ops nums c → (_≡_ {A = Memory} (entries (set (mem .held) k t) (mem .remaining) (set (mem .failed) k n) (mem .culprits)) (put mem k (writeCheck c (checkStep c (readCheck c (get mem k)) s w .state) (get mem k)))) × (n ≡ checkStep c (readCheck c (get mem k)) s w .now)
       go (range-check p q) h g = let z : _≡_ {A = ℕ} 0 1 = cc in absurd (omega arith)
       go (delayed-check p p′ q) h g =
           let m : n ≡ (get mem k .failed || (containsOf q s && (get mem k .held && bool.not (truth p′ w)))) =
           f .is p′ (second-eq h) (g .1)
-          ∙ ap (λ (y : NodeState). y .failed || (containsOf r s && (y .held && bool.not (truth p′ w)))) l
+          ∙ ap (λ (y : MonState). y .failed || (containsOf r s && (y .held && bool.not (truth p′ w)))) l
           ∙ ap (λ (y : AnchorRange). get mem k .failed || (containsOf y s && (get mem k .held && bool.not (truth p′ w)))) (sym (range-eq h)) in
           (λ i. record { held = set (mem .held) k (v .is p (first-eq h) (g .0) i); remaining = remaining-kept mem k i; failed = set (mem .failed) k (m i); culprits = culprits-kept mem k i }, m)
       go (obligation b p p′ q) h g = let z : _≡_ {A = ℕ} 0 1 = cc in absurd (omega arith)
@@ -270,7 +273,7 @@ module _ (ops nums : List ℕ) (mem : Memory) (k s w : ℕ) where
       );
     }
 
-    module _ (d : Bool) (f : Due ops nums e r s w d) (h : get mem k .held ≡ false) where
+    module _ (d : Bool) (f : TriggerDue ops nums e r s w d) (h : get mem k .held ≡ false) where
       pub window-none : d ≡ false → Opened ops nums b e r mem k s w mem false
       window-none q = record {
         is = λ x u g.
@@ -280,7 +283,8 @@ module _ (ops nums : List ℕ) (mem : Memory) (k s w : ℕ) where
             );
       }
 
-      pub window-new : s < 9223372036854775808 → d ≡ true → Opened ops nums b e r mem k s w (record { held = set (mem .held) k true; remaining = set (mem .remaining) k b; failed = mem .failed; culprits = set (mem .culprits) k (toZ w64 s) }) true
+      pub window-new : s < 9223372036854775808 → d ≡ true
+          → Opened ops nums b e r mem k s w (entries (set (mem .held) k true) (set (mem .remaining) k b) (mem .failed) (set (mem .culprits) k (toZ w64 s))) true
       window-new l q = record {
         is = λ x u g.
             let n : dueBy x ≡ true = sym (f .is x u g) ∙ q in (
@@ -291,7 +295,7 @@ module _ (ops nums : List ℕ) (mem : Memory) (k s w : ℕ) where
       }
 
   -- ---- bound 0
-  module _ (e e′ : SignalExpr) (r : AnchorRange) (d : Bool) (f : Due ops nums e r s w d) (c : AtOnce ops nums e e′ mem k s) where
+  module _ (e e′ : SignalExpr) (r : AnchorRange) (d : Bool) (f : TriggerDue ops nums e r s w d) (c : AtOnce ops nums e e′ mem k s) where
     abbrev once : Signal → Signal → ObligationState
     once x y = atOnce (containsOf r s && truth x w) (truth y w) s (obligationOf (get mem k))
 
@@ -304,7 +308,7 @@ module _ (ops nums : List ℕ) (mem : Memory) (k s w : ℕ) where
           );
     }
 
-    module _ (q : d ≡ true) (t : Bool) (v : Says ops nums e′ w t) where
+    module _ (q : d ≡ true) (t : Bool) (v : SignalSays ops nums e′ w t) where
       pub zero-met : t ≡ true → DoneAtOnce ops nums e e′ r mem k s w mem false
       zero-met z = record {
         is = λ x y u g u′ g′.
@@ -315,7 +319,7 @@ module _ (ops nums : List ℕ) (mem : Memory) (k s w : ℕ) where
             );
       }
 
-      pub zero-missed : t ≡ false → DoneAtOnce ops nums e e′ r mem k s w (record { held = mem .held; remaining = mem .remaining; failed = set (mem .failed) k true; culprits = set (mem .culprits) k (toZ w64 s) }) true
+      pub zero-missed : t ≡ false → DoneAtOnce ops nums e e′ r mem k s w (entries (mem .held) (mem .remaining) (set (mem .failed) k true) (set (mem .culprits) k (toZ w64 s))) true
       zero-missed z = record {
         is = λ x y u g u′ g′.
             let n : (containsOf r s && truth x w) ≡ true = sym (f .is x u g) ∙ q in
@@ -327,8 +331,8 @@ module _ (ops nums : List ℕ) (mem : Memory) (k s w : ℕ) where
       }
 
 -- ---- an open window
-module _ (ops nums : List ℕ) (e : SignalExpr) (mem : Memory) (k w : ℕ) (c : Tickable ops nums e mem k) (t : Bool) (v : Says ops nums e w t) where
-  pub tick-answered : t ≡ true → Ticked ops nums e mem k w (record { held = set (mem .held) k false; remaining = mem .remaining; failed = mem .failed; culprits = mem .culprits }) false
+module _ (ops nums : List ℕ) (e : SignalExpr) (mem : Memory) (k w : ℕ) (c : Tickable ops nums e mem k) (t : Bool) (v : SignalSays ops nums e w t) where
+  pub tick-answered : t ≡ true → Ticked ops nums e mem k w (entries (set (mem .held) k false) (mem .remaining) (mem .failed) (mem .culprits)) false
   tick-answered z = record {
     is = λ x u g.
         let n : truth x w ≡ true = sym (v .is x u g) ∙ z in (
@@ -338,7 +342,10 @@ module _ (ops nums : List ℕ) (e : SignalExpr) (mem : Memory) (k w : ℕ) (c : 
         );
   }
 
-  pub tick-less : t ≡ false → Ticked ops nums e mem k w (record { held = mem .held; remaining = set (mem .remaining) k (get mem k .remaining - 1); failed = set (mem .failed) k (eqb (get mem k .remaining - 1) 0); culprits = mem .culprits }) (eqb (get mem k .remaining - 1) 0)
+  pub tick-less : t ≡ false
+      → Ticked ops nums e mem k w
+      (entries (mem .held) (set (mem .remaining) k (get mem k .remaining - 1)) (set (mem .failed) k (eqb (get mem k .remaining - 1) 0)) (mem .culprits))
+      (eqb (get mem k .remaining - 1) 0)
   tick-less z = record {
     is = λ x u g.
         let n : truth x w ≡ false = sym (v .is x u g) ∙ z in (
@@ -349,7 +356,7 @@ module _ (ops nums : List ℕ) (e : SignalExpr) (mem : Memory) (k w : ℕ) (c : 
   }
 
 -- ---- an obligation
-put-put : (mem : Memory) (k : ℕ) (x y : NodeState) → put (put mem k x) k y ≡ put mem k y
+put-put : (mem : Memory) (k : ℕ) (x y : MonState) → put (put mem k x) k y ≡ put mem k y
 put-put mem k x y = λ j. record {
   held = set-set (mem .held) k (x .held) (y .held) j;
   remaining = set-set (mem .remaining) k (x .remaining) (y .remaining) j;
@@ -373,7 +380,7 @@ at-zero b s due body o e = ap (λ (n : ℕ). unfailedStep n s due body o) e
 
 unfailed-step : (b s : ℕ) (due body : Bool) (o : ObligationState) → o .failed ≡ false → obligationStep b s due body o ≡ unfailedStep b s due body o
 unfolding obligationStep
-unfailed-step b s due body o f = ap (λ (x : Bool). unless x o (unfailedStep b s due body o)) f
+unfailed-step b s due body o f = ap (λ (x : Bool). pick x o (unfailedStep b s due body o)) f
 
 remains : (b s : ℕ) (o : ObligationState) → WellKept b o → o .failed ≡ false → (b ≡ 0 → ⊥) → (p d : Bool) → o .pending ≡ p → opened p d b s o .pending ≡ true → 1 ≤ opened p d b s o .remaining
 remains b s o k f n true d e q = k .window e f .0
@@ -415,8 +422,8 @@ module _ (ops nums : List ℕ) (b : ℕ) (e e′ : SignalExpr) (r : AnchorRange)
   pub owed-failed : get mem k .failed ≡ true → CheckStepped ops nums (Obligation b e e′ r) mem k s w mem true
   unfolding obligationStep
   owed-failed h = owed-by mem true λ x y u g u′ g′. (
-    sym (ap (λ (z : Bool). put mem k (entryOf (unless z owes (unfailedStep b s (dueOf x) (truth y w) owes)))) h ∙ put-get mem k),
-    sym (ap (λ (z : Bool). unless z owes (unfailedStep b s (dueOf x) (truth y w) owes) .failed) h ∙ h),
+    sym (ap (λ (z : Bool). put mem k (entryOf (pick z owes (unfailedStep b s (dueOf x) (truth y w) owes)))) h ∙ put-get mem k),
+    sym (ap (λ (z : Bool). pick z owes (unfailedStep b s (dueOf x) (truth y w) owes) .failed) h ∙ h),
   )
 
   module _ (c : Checkable ops nums (Obligation b e e′ r) mem k s) (f : get mem k .failed ≡ false) where
@@ -464,9 +471,9 @@ module _ (ops nums : List ℕ) (b : ℕ) (e e′ : SignalExpr) (r : AnchorRange)
             record {
               inside = subst (λ (y : Memory). Inside y (k + 1)) (sym m) (inside-put mem k (entryOf (open-by x)) (k + 1) (c .inside));
               names = body-named ops nums (get mem k) s b e e′ r (c .steps);
-              is-open = ap (λ (y : NodeState). y .held) at-mid ∙ sym l ∙ q;
-              unfailed = ap (λ (y : NodeState). y .failed) at-mid ∙ opened-failed (get mem k .held) (dueOf x) b s owes ∙ f;
-              remains = subst (λ (y : NodeState). 1 ≤ y .remaining) (sym at-mid) (remains b s owes (owed-kept ops nums (get mem k) s b e e′ r (c .steps)) f n (get mem k .held) (dueOf x) refl (sym l ∙ q));
+              is-open = ap (λ (y : MonState). y .held) at-mid ∙ sym l ∙ q;
+              unfailed = ap (λ (y : MonState). y .failed) at-mid ∙ opened-failed (get mem k .held) (dueOf x) b s owes ∙ f;
+              remains = subst (λ (y : MonState). 1 ≤ y .remaining) (sym at-mid) (remains b s owes (owed-kept ops nums (get mem k) s b e e′ r (c .steps)) f n (get mem k .held) (dueOf x) refl (sym l ∙ q));
             }
 
         pub owed-ticks : (mem′ : Memory) (now : Bool) → Ticked ops nums e′ mid k w mem′ now → CheckStepped ops nums (Obligation b e e′ r) mem k s w mem′ now
@@ -475,7 +482,7 @@ module _ (ops nums : List ℕ) (b : ℕ) (e e′ : SignalExpr) (r : AnchorRange)
             let (m′, l′) = t .is y u′ g′ in
             let at-mid = mid-entry x u g in
             let same : ticked true (truth y w) (obligationOf (get mid k)) ≡ obligationStep b s (dueOf x) (truth y w) owes =
-            ap (λ (o : NodeState). ticked true (truth y w) (obligationOf o)) at-mid
+            ap (λ (o : MonState). ticked true (truth y w) (obligationOf o)) at-mid
             ∙ ap (λ (z : Bool). ticked z (truth y w) (open-by x)) (sym (sym l ∙ q))
             ∙ sym (step-is x y) in (
               m′ ∙ ap (λ (a : Memory). put a k (entryOf (ticked true (truth y w) (obligationOf (get mid k))))) m
@@ -489,8 +496,8 @@ module _ (ops nums : List ℕ) (n : MonNode) (mem : Memory) (k s : ℕ) where
   pub checkable-as : (m : MonNode) → Checkable ops nums n mem k s → n ≡ m → Checkable ops nums m mem k s
   checkable-as m d e = subst (λ (x : MonNode). Checkable ops nums x mem k s) e d
 
-  pub checked-at : (st : NodeState) → Checkable ops nums n mem k s → st ≡ get mem k → Steppable ops nums n st s
-  checked-at st d e = subst (λ (x : NodeState). Steppable ops nums n x s) (sym e) (d .steps)
+  pub checked-at : (st : MonState) → Checkable ops nums n mem k s → st ≡ get mem k → Steppable ops nums n st s
+  checked-at st d e = subst (λ (x : MonState). Steppable ops nums n x s) (sym e) (d .steps)
 
   pub stepped-as : (m : MonNode) (w : ℕ) (mem′ : Memory) (o : Bool) → n ≡ m → CheckStepped ops nums m mem k s w mem′ o → CheckStepped ops nums n mem k s w mem′ o
   stepped-as m w mem′ o e d = subst (λ (x : MonNode). CheckStepped ops nums x mem k s w mem′ o) (sym e) d

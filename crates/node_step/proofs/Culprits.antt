@@ -10,7 +10,7 @@ use mir.Syntax.{w64}
 use mir.Val.{SFits, toZ, ofZ}
 use mir.Facts.{toZ-ofZ}
 use Rattle.meaning.specs.Culprit.{minus-one}
-use Rattle.meaning.specs.State.{least, offered}
+use Rattle.meaning.specs.State.{least, offered, minTriggerAt}
 
 true-false : {B : Type 0} → _≡_ {A = Bool} true false → B
 true-false e = let z : _≡_ {A = ℕ} 0 1 = cc in absurd (omega arith)
@@ -76,3 +76,10 @@ module _ (a b : ℤ) (f : SFits w64 a) (g : SFits w64 b) where
 
     pub least-second : ltZ (toZ w64 (ofZ w64 a)) (toZ w64 (ofZ w64 b)) ≡ false → toZ w64 (ofZ w64 b) ≡ least a b
     least-second q = b-is ∙ right-least a b (at-zero a-is h) (at-zero b-is k) (ap₂ ltZ (sym a-is) (sym b-is) ∙ q)
+
+-- ---- the least that the parts offer
+pub least-offered : (left right : Bool) (a b x y r : ℤ) → SFits w64 a → SFits w64 b → SFits w64 x → SFits w64 y → SFits w64 r
+    → x ≡ offered left (toZ w64 (ofZ w64 a)) → y ≡ offered right (toZ w64 (ofZ w64 b)) → r ≡ least (toZ w64 (ofZ w64 x)) (toZ w64 (ofZ w64 y))
+    → toZ w64 (ofZ w64 r) ≡ minTriggerAt left a right b
+least-offered left right a b x y r fa fb fx fy fr p q e =
+    toZ-ofZ fr ∙ e ∙ ap₂ least (toZ-ofZ fx ∙ p ∙ ap (offered left) (toZ-ofZ fa)) (toZ-ofZ fy ∙ q ∙ ap (offered right) (toZ-ofZ fb))

@@ -6,10 +6,10 @@ use native.Mathlib.Omega.{arith}
 use lib.IntN.{pos}
 use lib.ListN.{length-set}
 use lib.Seq.{getD-set-same, getD-set-other, set-getD}
-use Rattle.node_step.specs.declared.state.NodeState.{NodeState}
+use Rattle.node_step.specs.declared.state.MonState.{MonState}
 use Rattle.node_step.specs.Memory.{Memory, get, put, Inside}
 
-module _ (mem : Memory) (i : ℕ) (x : NodeState) where
+module _ (mem : Memory) (i : ℕ) (x : MonState) where
   pub get-put-same : Inside mem (i + 1) → get (put mem i x) i ≡ x
   get-put-same d = λ j. record {
     held = getD-set-same (mem .held) i (x .held) false (omega (arith, d .held)) j;
@@ -34,7 +34,7 @@ module _ (mem : Memory) (i : ℕ) (x : NodeState) where
     culprits = subst (λ (k : ℕ). n ≤ k) (sym (length-set (mem .culprits) i (x .culprit))) (d .culprits);
   }
 
-pub culprit-put : (mem : Memory) (i : ℕ) (x : NodeState) → Inside mem (i + 1) → get (put mem i x) i .culprit ≡ x .culprit
+pub culprit-put : (mem : Memory) (i : ℕ) (x : MonState) → Inside mem (i + 1) → get (put mem i x) i .culprit ≡ x .culprit
 culprit-put mem i x d = getD-set-same (mem .culprits) i (x .culprit) (pos 0) (omega (arith, d .culprits))
 
 pub put-get : (mem : Memory) (i : ℕ) → put mem i (get mem i) ≡ mem

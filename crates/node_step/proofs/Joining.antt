@@ -10,8 +10,8 @@ use mir.Syntax.{w64}
 use mir.Val.{Fits, SFits, toZ, ofZ}
 use mir.Facts.{toZ-ofZ}
 use Rattle.terms.specs.Choice.{pick}
-use Rattle.meaning.specs.State.{least, offered}
-use Rattle.node_step.specs.declared.state.NodeState.{NodeState}
+use Rattle.meaning.specs.State.{minTriggerAt}
+use Rattle.node_step.specs.declared.state.MonState.{MonState}
 use Rattle.node_step.specs.Memory.{Memory, get, put, Inside}
 use Rattle.node_step.specs.Joined.{joinedNow, joinedOf, PairReady, Finished}
 use Rattle.node_step.proofs.Entries.{inside-less}
@@ -30,7 +30,7 @@ pub now-all-no : (any l r : Bool) → any ≡ false → l ≡ false → false �
 now-all-no any l r a h = sym (ap₂ (λ (x y : Bool). joinedNow x y r) a h)
 
 -- ---- a joined node's entry
-module _ (st : NodeState) (now left : Bool) (a : NodeState) (right : Bool) (b : NodeState) where
+module _ (st : MonState) (now left : Bool) (a : MonState) (right : Bool) (b : MonState) where
   or-false : (x : Bool) → (x || false) ≡ x
   or-false true = refl
   or-false false = refl
@@ -40,7 +40,7 @@ module _ (st : NodeState) (now left : Bool) (a : NodeState) (right : Bool) (b : 
     held = st .held;
     remaining = st .remaining;
     failed = sym (ap (λ (x : Bool). x || now) g ∙ sym g) j;
-    culprit = sym (ap (λ (x : Bool). pick (bool.not x && now) (least (offered left (a .culprit)) (offered right (b .culprit))) (st .culprit)) g) j;
+    culprit = sym (ap (λ (x : Bool). pick (bool.not x && now) (minTriggerAt left (a .culprit) right (b .culprit)) (st .culprit)) g) j;
   }
 
   pub joined-quiet : now ≡ false → st ≡ joinedOf st now left a right b
@@ -48,25 +48,28 @@ module _ (st : NodeState) (now left : Bool) (a : NodeState) (right : Bool) (b : 
     held = st .held;
     remaining = st .remaining;
     failed = sym (ap (λ (x : Bool). st .failed || x) n ∙ or-false (st .failed)) j;
-    culprit = sym (ap (λ (x : Bool). pick (bool.not (st .failed) && x) (least (offered left (a .culprit)) (offered right (b .culprit))) (st .culprit)) n ∙ none (st .failed) _) j;
+    culprit = sym (ap (λ (x : Bool). pick (bool.not (st .failed) && x) (minTriggerAt left (a .culprit) right (b .culprit)) (st .culprit)) n ∙ none (st .failed) _) j;
   }
     where
       none : (x : Bool) (c : ℤ) → pick (bool.not x && false) c (st .culprit) ≡ st .culprit
       none true c = refl
       none false c = refl
 
-  pub joined-fails : (x y c : ℤ) → SFits w64 (a .culprit) → SFits w64 (b .culprit) → SFits w64 x → SFits w64 y → SFits w64 c → st .failed ≡ false → now ≡ true → x ≡ offered left (toZ w64 (ofZ w64 (a .culprit))) → y ≡ offered right (toZ w64 (ofZ w64 (b .culprit))) → c ≡ least (toZ w64 (ofZ w64 x)) (toZ w64 (ofZ w64 y)) → _≡_ {A = NodeState} (record { held = st .held; remaining = st .remaining; failed = true; culprit = toZ w64 (ofZ w64 c) }) (joinedOf st now left a right b)
-  joined-fails x y c f f′ fx fy f″ g n p q l =
-      let v : c ≡ least (offered left (a .culprit)) (offered right (b .culprit)) = l ∙ ap₂ least (toZ-ofZ fx ∙ p ∙ ap (offered left) (toZ-ofZ f)) (toZ-ofZ fy ∙ q ∙ ap (offered right) (toZ-ofZ f′)) in
+  pub joined-fails : (c : ℤ) → SFits w64 (a .culprit) → SFits w64 (b .culprit) → SFits w64 c → st .failed ≡ false → now ≡ true
+      → c ≡ minTriggerAt left (toZ w64 (ofZ w64 (a .culprit))) right (toZ w64 (ofZ w64 (b .culprit)))
+      → _≡_ {A = MonState} (record { held = st .held; remaining = st .remaining; failed = true; culprit = toZ w64 (ofZ w64 c) }) (joinedOf st now left a right b)
+  joined-fails c f f′ f″ g n l =
+      let v : c ≡ minTriggerAt left (a .culprit) right (b .culprit) = l ∙ ap₂ (λ (x y : ℤ). minTriggerAt left x right y) (toZ-ofZ f) (toZ-ofZ f′) in
       λ j. record {
         held = st .held;
         remaining = st .remaining;
         failed = sym (ap₂ (λ (u w : Bool). u || w) g n) j;
-        culprit = (toZ-ofZ f″ ∙ v ∙ sym (ap₂ (λ (u w : Bool). pick (bool.not u && w) (least (offered left (a .culprit)) (offered right (b .culprit))) (st .culprit)) g n)) j;
+        culprit = (toZ-ofZ f″ ∙ v ∙ sym (ap₂ (λ (u w : Bool). pick (bool.not u && w) (minTriggerAt left (a .culprit) right (b .culprit)) (st .culprit)) g n)) j;
       }
 
-pub finish-all : (mem : Memory) (k mid : ℕ) (now left right : Bool) (st a b e : NodeState) (mem′ : Memory) → st ≡ get mem k → a ≡ get mem (k + 1) → b ≡ get mem mid → e ≡ joinedOf st now left a right b → mem′ ≡ put mem k e → Finished mem k mid now left right mem′
-finish-all mem k mid now left right st a b e mem′ p q r u v = record { is = v ∙ ap (put mem k) (u ∙ ap (λ (x : NodeState). joinedOf x now left a right b) p ∙ ap₂ (λ (x y : NodeState). joinedOf (get mem k) now left x right y) q r) }
+pub finish-all : (mem : Memory) (k mid : ℕ) (now left right : Bool) (st a b e : MonState) (mem′ : Memory) → st ≡ get mem k → a ≡ get mem (k + 1)
+    → b ≡ get mem mid → e ≡ joinedOf st now left a right b → mem′ ≡ put mem k e → Finished mem k mid now left right mem′
+finish-all mem k mid now left right st a b e mem′ p q r u v = record { is = v ∙ ap (put mem k) (u ∙ ap (λ (x : MonState). joinedOf x now left a right b) p ∙ ap₂ (λ (x y : MonState). joinedOf (get mem k) now left x right y) q r) }
 
 module _ (mem : Memory) (k mid : ℕ) (d : PairReady mem k mid) where
   pub pair-entry : Inside mem (k + 1)

@@ -7,8 +7,8 @@ use lib.IntN.{ℤ}
 use Rattle.terms.specs.Choice.{pick}
 use Rattle.monitor.specs.declared.node.MonNode.{MonNode}
 use Rattle.monitor.specs.declared.node.MonNode.the-variants.{RangeCheck, DelayedCheck, Obligation, And as AndNode, Or as OrNode}
-use Rattle.meaning.specs.State.{least, offered}
-use Rattle.node_step.specs.declared.state.NodeState.{NodeState}
+use Rattle.meaning.specs.State.{minTriggerAt}
+use Rattle.node_step.specs.declared.state.MonState.{MonState}
 use Rattle.node_step.specs.declared.joined.Parts.{Parts}
 use Rattle.node_step.specs.declared.joined.Parts.the-variants.{Single, Joined}
 use Rattle.node_step.specs.Memory.{Memory, get, put, Inside}
@@ -26,20 +26,20 @@ joinedNow true l r = l || r
 joinedNow false l r = l && r
 
 -- a new mark and culprit in an entry
-abbrev pub joinedEntry : Bool → ℤ → NodeState → NodeState
+abbrev pub joinedEntry : Bool → ℤ → MonState → MonState
 joinedEntry f c e = record { held = e .held; remaining = e .remaining; failed = f; culprit = c }
 
 -- a joined node's entry after its parts have stepped
-abbrev pub joinedOf : NodeState → Bool → Bool → NodeState → Bool → NodeState → NodeState
+abbrev pub joinedOf : MonState → Bool → Bool → MonState → Bool → MonState → MonState
 joinedOf st now left a right b =
-    joinedEntry (st .failed || now) (pick (bool.not (st .failed) && now) (least (offered left (a .culprit)) (offered right (b .culprit))) (st .culprit)) st
+    joinedEntry (st .failed || now) (pick (bool.not (st .failed) && now) (minTriggerAt left (a .culprit) right (b .culprit)) (st .culprit)) st
 
 -- ---- in the memory: node k, its left part behind it and its right part at `mid`
 pub record PairReady (mem : Memory) (k mid : ℕ) : Type 0 where
   pub first : k < mid
   pub inside : Inside mem (mid + 1)
 
-abbrev pub finished : Memory → ℕ → ℕ → Bool → Bool → Bool → NodeState
+abbrev pub finished : Memory → ℕ → ℕ → Bool → Bool → Bool → MonState
 finished mem k mid now left right = joinedOf (get mem k) now left (get mem (k + 1)) right (get mem mid)
 
 pub record Finished (mem : Memory) (k mid : ℕ) (now left right : Bool) (mem′ : Memory) : Type 0 where

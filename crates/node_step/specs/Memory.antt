@@ -4,7 +4,8 @@ use mathlib.Core.List.{List}
 use Prim.Native.Nat.{ℕ, _≤_}
 use lib.IntN.{ℤ, pos}
 use lib.ListN.{length, getD, set}
-use Rattle.node_step.specs.declared.state.NodeState.{NodeState}
+use Rattle.meaning.specs.Culprit.{minus-one}
+use Rattle.node_step.specs.declared.state.MonState.{MonState}
 
 pub record Memory : Type 0 where
   pub held : List Bool
@@ -15,7 +16,7 @@ pub record Memory : Type 0 where
 abbrev pub entries : List Bool → List ℕ → List Bool → List ℤ → Memory
 entries held remaining failed culprits = record { held = held; remaining = remaining; failed = failed; culprits = culprits }
 
-abbrev pub get : Memory → ℕ → NodeState
+abbrev pub get : Memory → ℕ → MonState
 get mem i = record {
   held = getD (mem .held) i false;
   remaining = getD (mem .remaining) i 0;
@@ -23,13 +24,17 @@ get mem i = record {
   culprit = getD (mem .culprits) i (pos 0);
 }
 
-abbrev pub put : Memory → ℕ → NodeState → Memory
+abbrev pub put : Memory → ℕ → MonState → Memory
 put mem i st = record {
   held = set (mem .held) i (st .held);
   remaining = set (mem .remaining) i (st .remaining);
   failed = set (mem .failed) i (st .failed);
   culprits = set (mem .culprits) i (st .culprit);
 }
+
+-- a node's entry in a fresh monitor: nothing pending, failed or remembered, and no step to blame
+abbrev pub initialEntry : MonState
+initialEntry = record { held = false; remaining = 0; failed = false; culprit = minus-one }
 
 -- the first n nodes have their entries
 pub record Inside (mem : Memory) (n : ℕ) : Type 0 where

@@ -1,5 +1,5 @@
 // One step of a check, on its entry in the monitor's memory: no more is read or stored than the check's form needs.
-use crate::state::NodeState;
+use crate::state::MonState;
 use crate::state::load;
 use formula::signal::value_at;
 use monitor::node::MonNode;
@@ -7,12 +7,13 @@ use monitor::node::SignalExpr;
 use monitor::range::AnchorRange;
 ghost use mathlib.Core.Path.{_≡_};
 ghost use Rattle.node_step.specs.Memory.{entries};
-ghost use Rattle.node_step.specs.Check.{Named, Says, Steppable, Checkable, CheckStepped, DelayedNow, Due, Openable, Opened, Tickable, Ticked, AtOnce, DoneAtOnce};
+ghost use Rattle.node_step.specs.Check.{Named, SignalSays, Steppable, Checkable, CheckStepped, DelayedNow};
+ghost use Rattle.node_step.specs.Check.{TriggerDue, Openable, Opened, Tickable, Ticked, AtOnce, DoneAtOnce};
 
 // The truth of a signal.
 fn truth_of(ops: &[u8], nums: &[u64], e: SignalExpr, w: u64) -> bool
     requires { ⌜ Named (now ops) (now nums) e ⌝ }
-    ensures { λ r. ⌜ Says (now (ops .entry)) (now (nums .entry)) e w r ⌝ }
+    ensures { λ r. ⌜ SignalSays (now (ops .entry)) (now (nums .entry)) e w r ⌝ }
 {
     let SignalExpr::At(p) = e else {
         return true;
@@ -56,7 +57,7 @@ fn delayed_now(
     antecedent: SignalExpr,
     consequent: SignalExpr,
     range: AnchorRange,
-    st: NodeState,
+    st: MonState,
     s: u64,
     w: u64,
 ) -> bool
@@ -107,7 +108,7 @@ fn step_delayed(
 // Whether an obligation's trigger holds at a step of its range.
 fn is_due(ops: &[u8], nums: &[u64], trigger: SignalExpr, range: AnchorRange, s: u64, w: u64) -> bool
     requires { ⌜ Named (now ops) (now nums) trigger ⌝ }
-    ensures { λ r. ⌜ Due (now (ops .entry)) (now (nums .entry)) trigger range s w r ⌝ }
+    ensures { λ r. ⌜ TriggerDue (now (ops .entry)) (now (nums .entry)) trigger range s w r ⌝ }
 {
     if range.contains(s) {
         return truth_of(ops, nums, trigger, w);

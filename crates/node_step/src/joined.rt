@@ -1,12 +1,12 @@
 // A joined node's own step, after its parts have stepped: whether it is failing now, and its entry.
-use crate::state::NodeState;
+use crate::state::MonState;
 use crate::state::load;
 use crate::state::store;
 use monitor::node::MonNode;
 ghost use mathlib.Core.Path.{_≡_};
 ghost use mathlib.Core.Bool.{true, false};
 ghost use Prim.Native.Nat.{_+_, _<_};
-ghost use Rattle.meaning.specs.State.{least, offered};
+ghost use Rattle.meaning.specs.State.{least, offered, minTriggerAt};
 ghost use Rattle.node_step.specs.Memory.{entries};
 ghost use Rattle.node_step.specs.Joined.{partsOf, joinedNow, joinedOf, PairReady, Finished};
 
@@ -53,7 +53,7 @@ pub fn joined_now(any: bool, left: bool, right: bool) -> bool
 }
 
 // The culprit that a part offers: its own while it is failing now, else none.
-pub fn offer(now: bool, culprit: i64) -> i64
+fn offer(now: bool, culprit: i64) -> i64
     ensures { λ r. ⌜ r ≡ offered now culprit ⌝ }
 {
     if now {
@@ -62,8 +62,8 @@ pub fn offer(now: bool, culprit: i64) -> i64
     -1
 }
 
-// The least culprit from 0 up (`min_trigger_at`).
-pub fn min_trigger_at(a: i64, b: i64) -> i64
+// The least of two from 0 up, else minus 1.
+fn least_of(a: i64, b: i64) -> i64
     ensures { λ r. ⌜ r ≡ least a b ⌝ }
 {
     if a < 0 {
@@ -81,23 +81,30 @@ pub fn min_trigger_at(a: i64, b: i64) -> i64
     b
 }
 
-// A joined node's entry after its parts have stepped: at its first alarm it fails, and takes the least culprit of the parts that are failing now.
+// The least culprit from 0 up of the parts that are failing now.
+fn min_trigger_at(left: bool, a: i64, right: bool, b: i64) -> i64
+    ensures { λ r. ⌜ r ≡ minTriggerAt left a right b ⌝ }
+{
+    least_of(offer(left, a), offer(right, b))
+}
+
+// A joined node's entry after its parts have stepped: at its first alarm it fails, and takes `min_trigger_at`.
 fn joined(
-    st: NodeState,
+    st: MonState,
     failing: bool,
     left: bool,
-    a: NodeState,
+    a: MonState,
     right: bool,
-    b: NodeState,
-) -> NodeState
+    b: MonState,
+) -> MonState
     ensures { λ r. ⌜ r ≡ joinedOf st failing left a right b ⌝ }
 {
     if st.failed {
         return st;
     }
     if failing {
-        let culprit = min_trigger_at(offer(left, a.culprit), offer(right, b.culprit));
-        return NodeState {
+        let culprit = min_trigger_at(left, a.culprit, right, b.culprit);
+        return MonState {
             held: st.held,
             remaining: st.remaining,
             failed: true,
@@ -120,8 +127,8 @@ pub fn finish(
     right: bool,
 )
     requires { ⌜ PairReady (entries (now held) (now remaining) (now failed) (now culprits)) k mid ⌝ }
-    ensures { λ _. ⌜ Finished (entries (now (held .entry)) (now (remaining .entry)) (now (failed .entry)) (now (culprits .entry))) k mid failing left
-        right (entries (now (held .exit)) (now (remaining .exit)) (now (failed .exit)) (now (culprits .exit))) ⌝ }
+    ensures { λ _. ⌜ Finished (entries (now (held .entry)) (now (remaining .entry)) (now (failed .entry)) (now (culprits .entry))) k mid failing left right
+        (entries (now (held .exit)) (now (remaining .exit)) (now (failed .exit)) (now (culprits .exit))) ⌝ }
 {
     let st = load(held, remaining, failed, culprits, k);
     let a = load(held, remaining, failed, culprits, k + 1);

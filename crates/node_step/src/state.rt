@@ -1,14 +1,26 @@
-// A node's state in a monitor's memory: for each node a register, what remains of a window, whether it has failed, and its culprit.
+// A node's state in a monitor's memory (`MonState`, which holds its parts' states too; here these stand behind it).
 ghost use mathlib.Core.Path.{_≡_};
 ghost use Prim.Native.Nat.{_+_};
-ghost use Rattle.node_step.specs.Memory.{Memory, get, put, Inside, entries};
+ghost use Rattle.node_step.specs.Memory.{Memory, get, put, Inside, entries, initialEntry};
 
 // `held`: a delayed check's remembered antecedent, or that an obligation's window is pending.
-pub struct NodeState {
+pub struct MonState {
     pub held: bool,
     pub remaining: u64,
     pub failed: bool,
     pub culprit: i64,
+}
+
+// The state of a node in a fresh monitor.
+pub fn initial_state() -> MonState
+    ensures { λ r. ⌜ r ≡ initialEntry ⌝ }
+{
+    MonState {
+        held: false,
+        remaining: 0,
+        failed: false,
+        culprit: -1,
+    }
 }
 
 // The state of node i.
@@ -18,11 +30,11 @@ pub fn load(
     failed: &[bool],
     culprits: &[i64],
     i: usize,
-) -> NodeState
+) -> MonState
     requires { ⌜ Inside (entries (now held) (now remaining) (now failed) (now culprits)) (i + 1) ⌝ }
     ensures { λ r. ⌜ r ≡ get (entries (now (held .entry)) (now (remaining .entry)) (now (failed .entry)) (now (culprits .entry))) i ⌝ }
 {
-    NodeState {
+    MonState {
         held: held[i],
         remaining: remaining[i],
         failed: failed[i],
@@ -31,13 +43,13 @@ pub fn load(
 }
 
 // Stores the state of node i.
-pub(crate) fn store(
+pub fn store(
     held: &mut [bool],
     remaining: &mut [u64],
     failed: &mut [bool],
     culprits: &mut [i64],
     i: usize,
-    state: NodeState,
+    state: MonState,
 )
     requires { ⌜ Inside (entries (now held) (now remaining) (now failed) (now culprits)) (i + 1) ⌝ }
     ensures { λ _. ⌜ _≡_ {A = Memory} (entries (now (held .exit)) (now (remaining .exit)) (now (failed .exit)) (now (culprits .exit)))

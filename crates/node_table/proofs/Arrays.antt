@@ -37,7 +37,9 @@ A64 = Array u64 1024
 
 -- an array in a local is its elements, side by side, and the other way round
 module _ {M : Type 1} (𝓤 : URA M) (H : Heap 𝓤) (A : Atoms 𝓤) (W : Given 𝓤 H A) (R : RattleType) (n : ℕ) (b : ℕ) (xs : List (R .Denot)) where
-  pub apart : Single (R .mir) → (v : Val) → ent 𝓤 (sep 𝓤 (sem 𝓤 H A (cellAt fullShare (Array R n .mir) (v ∷ []) b 0)) (sem 𝓤 H A (Array R n .own xs (v ∷ [])))) (sem 𝓤 H A (fsep (feq ℕ (length xs) n) (row R fullShare xs b 0)))
+  pub apart : Single (R .mir) → (v : Val)
+      → ent 𝓤 (sep 𝓤 (sem 𝓤 H A (cellAt fullShare (Array R n .mir) (v ∷ []) b 0)) (sem 𝓤 H A (Array R n .own xs (v ∷ []))))
+      (sem 𝓤 H A (fsep (feq ℕ (length xs) n) (row R fullShare xs b 0)))
   unfolding partOf
   apart one v =
       qed W (‵ (cellAt fullShare (Array R n .mir) (v ∷ []) b 0) ∷ ‵ (Array R n .own xs (v ∷ [])) ∷ []) ∵ fjoin ! $

@@ -10,25 +10,26 @@ use borrow.Author.Tests.{lt-ltb, le-ltb, lt-leb, le-leb, leb-true, ltb-true, ltb
 use lib.Dec.{ltb, leb}
 use lib.ListN.{length, getD, set, take, length-map, List·getD-map}
 use lib.Seq.{length-take-le, getD-set-same, getD-set-other}
-use Rattle.node_table.specs.Node.{blank, nodeOf, opsOf, numsOf}
-use Rattle.node_table.specs.Columns.{within, lesser, endOf, endIf, HoldsColumn, front}
+use Rattle.node_table.specs.Node.{blank, structAt, opsOf, numsOf}
+use Rattle.terms.specs.Choice.{pick}
+use Rattle.node_table.specs.Columns.{capped, endOf, HoldsColumn, front}
 use Rattle.node_table.specs.declared.FormulaNode.{FormulaNode}
 
-pub within-few : (n : ℕ) → n < 1024 → n ≡ within n
-within-few n h = rw (lt-ltb n 1024 h)
+pub capped-few : (n : ℕ) → n < 1024 → n ≡ capped n
+capped-few n h = rw (lt-ltb n 1024 h)
 
-pub within-many : (n : ℕ) → 1024 ≤ n → 1024 ≡ within n
-within-many n h = rw (le-ltb n 1024 h)
+pub capped-many : (n : ℕ) → 1024 ≤ n → 1024 ≡ capped n
+capped-many n h = rw (le-ltb n 1024 h)
 
-cases : (n : ℕ) (t : Bool) → ltb n 1024 ≡ t → (lesser t n ≤ 1024) × (lesser t n ≤ n)
+cases : (n : ℕ) (t : Bool) → ltb n 1024 ≡ t → (pick t n 1024 ≤ 1024) × (pick t n 1024 ≤ n)
 cases n true e = (omega (arith, ltb-true n 1024 e), omega arith)
 cases n false e = (omega arith, omega (arith, ltb-false n 1024 e))
 
-pub within-all : (n : ℕ) → within n ≤ 1024
-within-all n = cases n (ltb n 1024) refl .0
+pub capped-all : (n : ℕ) → capped n ≤ 1024
+capped-all n = cases n (ltb n 1024) refl .0
 
-pub within-lent : (n : ℕ) → within n ≤ n
-within-lent n = cases n (ltb n 1024) refl .1
+pub capped-lent : (n : ℕ) → capped n ≤ n
+capped-lent n = cases n (ltb n 1024) refl .1
 
 -- ---- the places of a rule that are read
 end-refuses : (first count lent : ℕ) → lent < first + count → first ≡ endOf lent first count
@@ -47,7 +48,7 @@ end-lent lent first count h k = rw (le-leb (first + count) lent (omega arith))
 pub end-inside : (lent first count i : ℕ) → first ≤ i → i < endOf lent first count → i < lent
 end-inside lent first count i from h = go (leb (first + count) lent) refl h
   where
-    go : (t : Bool) → leb (first + count) lent ≡ t → i < endIf t first (first + count) → i < lent
+    go : (t : Bool) → leb (first + count) lent ≡ t → i < pick t (first + count) first → i < lent
     go true e k = omega (arith, leb-true (first + count) lent e)
     go false e k = absurd (omega arith)
 
@@ -57,11 +58,11 @@ end-fits lent first count i h below = rw (le-leb (first + count) lent h) below
 
 -- a column that holds the entries before i and is given the one at i holds one more
 pub holds-next : (f : FormulaNode → ℕ) → f blank ≡ 0 → (ys : List FormulaNode) (xs : List ℕ) (from i : ℕ) → from ≤ i → i < length xs
-    → HoldsColumn xs (map f ys) from i → HoldsColumn (set xs i (f (nodeOf ys i))) (map f ys) from (i + 1)
+    → HoldsColumn xs (map f ys) from i → HoldsColumn (set xs i (f (structAt ys i))) (map f ys) from (i + 1)
 holds-next f z ys xs from i le lx h k above below = go (ltb k i) refl
   where
     a : ℕ
-    a = f (nodeOf ys i)
+    a = f (structAt ys i)
 
     go : (t : Bool) → ltb k i ≡ t → getD (set xs i a) k 0 ≡ getD (map f ys) k 0
     go true e = getD-set-other xs i k a 0 (ne-of-lt (ltb-true k i e)) ∙ h k above (ltb-true k i e)

@@ -2,3 +2,4 @@
 pub mod Arrays
 pub mod Filling
 pub mod Own
+pub mod Unpacking

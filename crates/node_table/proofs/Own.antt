@@ -13,16 +13,17 @@ use Rattle.formula.specs.Table.{inTable, ruleOf, roomy}
 use Rattle.formula.proofs.Local.{Agree, rule-local}
 use Rattle.formula.proofs.Walks.{both-true}
 use Rattle.node_table.specs.Node.{opsOf, numsOf}
-use Rattle.node_table.specs.Columns.{within, lesser, Unpacked}
+use Rattle.terms.specs.Choice.{pick}
+use Rattle.node_table.specs.Columns.{capped, Unpacked}
 use Rattle.node_table.specs.declared.Columns.{Columns}
 use Rattle.node_table.specs.declared.FormulaNode.{FormulaNode}
 use Rattle.node_table.proofs.Filling.{end-fits}
 
--- of places up to 1,024, as many nodes hold them as `within` says
-within-holds : (x n : ℕ) → x ≤ 1024 → leb x (within n) ≡ leb x n
-within-holds x n h = go (ltb n 1024) refl
+-- of places up to 1,024, as many nodes hold them as `capped` says
+capped-holds : (x n : ℕ) → x ≤ 1024 → leb x (capped n) ≡ leb x n
+capped-holds x n h = go (ltb n 1024) refl
   where
-    go : (t : Bool) → ltb n 1024 ≡ t → leb x (lesser t n) ≡ leb x n
+    go : (t : Bool) → ltb n 1024 ≡ t → leb x (pick t n 1024) ≡ leb x n
     go true e = refl
     go false e = le-leb x 1024 h ∙ sym (le-leb x n (omega (arith, ltb-false n 1024 e)))
 
@@ -33,10 +34,10 @@ module _ (table : List FormulaNode) (first count : ℕ) (c : Columns) (u : Unpac
   abbrev ns : List ℕ
   ns = take (c .count) (c .nums)
 
-  os-length : length os ≡ within (length table)
+  os-length : length os ≡ capped (length table)
   os-length = length-take-le (c .count) (c .ops) (u .inside .ops) ∙ u .lent
 
-  ns-length : length ns ≡ within (length table)
+  ns-length : length ns ≡ capped (length table)
   ns-length = length-take-le (c .count) (c .nums) (u .inside .nums) ∙ u .lent
 
   ops-length : length (opsOf table) ≡ length table
@@ -46,10 +47,10 @@ module _ (table : List FormulaNode) (first count : ℕ) (c : Columns) (u : Unpac
   nums-length = length-map table (λ x. x .num)
 
   holds-ops : (x : ℕ) → x ≤ 1024 → leb x (length os) ≡ leb x (length (opsOf table))
-  holds-ops x h = ap (leb x) os-length ∙ within-holds x (length table) h ∙ ap (leb x) (sym ops-length)
+  holds-ops x h = ap (leb x) os-length ∙ capped-holds x (length table) h ∙ ap (leb x) (sym ops-length)
 
   holds-nums : (x : ℕ) → x ≤ 1024 → leb x (length ns) ≡ leb x (length (numsOf table))
-  holds-nums x h = ap (leb x) ns-length ∙ within-holds x (length table) h ∙ ap (leb x) (sym nums-length)
+  holds-nums x h = ap (leb x) ns-length ∙ capped-holds x (length table) h ∙ ap (leb x) (sym nums-length)
 
   pub own-room : roomy os ns ≡ roomy (opsOf table) (numsOf table)
   own-room = ap (λ (t : Bool). t && leb bookNodes (length ns)) (holds-ops 1024 (omega arith)) ∙ ap (λ (t : Bool). leb bookNodes (length (opsOf table)) && t) (holds-nums 1024 (omega arith))

@@ -1,5 +1,5 @@
 -- A formula table as a list of nodes.
---     nodeOf           the node at a place
+--     structAt         the node at a place
 --     opsOf, numsOf    the operations and the numbers of the nodes: the two lists of which the core's definitions speak
 use mathlib.Core.List.{List, map}
 use Prim.Native.Nat.{ℕ}
@@ -9,8 +9,8 @@ use Rattle.node_table.specs.declared.FormulaNode.{FormulaNode}
 abbrev pub blank : FormulaNode
 blank = record { op = 0; num = 0 }
 
-abbrev pub nodeOf : List FormulaNode → ℕ → FormulaNode
-nodeOf table i = getD table i blank
+abbrev pub structAt : List FormulaNode → ℕ → FormulaNode
+structAt table i = getD table i blank
 
 abbrev pub opsOf : List FormulaNode → List ℕ
 opsOf table = map (λ x. x .op) table

@@ -5,8 +5,8 @@ use terms::limit::BOOK_NODES;
 ghost use mathlib.Core.Path.{_≡_};
 ghost use Prim.Native.Nat.{_+_, _≤_, _<_};
 ghost use lib.ListN.{length, set};
-ghost use Rattle.node_table.specs.Node.{nodeOf};
-ghost use Rattle.node_table.specs.Columns.{within, endOf, Unpacked, Inside, Packed};
+ghost use Rattle.node_table.specs.Node.{structAt};
+ghost use Rattle.node_table.specs.Columns.{capped, endOf, Unpacked, Inside, Packed};
 
 // A node of a formula table: its operation and its number.
 pub struct FormulaNode {
@@ -17,7 +17,7 @@ pub struct FormulaNode {
 // The node at i.
 pub(crate) fn node_at(table: &[FormulaNode], i: usize) -> FormulaNode
     requires { ⌜ i < length (now table) ⌝ }
-    ensures { λ r. ⌜ r ≡ nodeOf (now (table .entry)) i ⌝ }
+    ensures { λ r. ⌜ r ≡ structAt (now (table .entry)) i ⌝ }
 {
     table[i]
 }
@@ -31,7 +31,7 @@ pub struct Columns {
 
 // Columns for the first 1,024 of `len` nodes.
 fn columns_for(len: usize) -> Columns
-    ensures { λ r. ⌜ r .count ≡ within len ⌝ }
+    ensures { λ r. ⌜ r .count ≡ capped len ⌝ }
 {
     if len < BOOK_NODES {
         return Columns {

@@ -3,7 +3,7 @@ use mathlib.Core.Path.{_≡_, refl, sym, ap, ap₂, subst, _∙_}
 use mathlib.Core.Bool.{Bool, true, false, _&&_, not}
 use mathlib.Core.Logic.{⊎-elim}
 use mathlib.Core.List.{List, [], _∷_, _++_}
-use Prim.Native.Nat.{ℕ, zero, suc, _+_, _*_, _≤_, _<_}
+use Prim.Native.Nat.{ℕ, zero, suc, _+_, _*_, _^_, _≤_, _<_}
 use native.Mathlib.Omega.{arith}
 use native.Mathlib.Numerals.{add-one}
 use native.Mathlib.Nat.{add-zero, zero-add, add-suc, suc-add, add-assoc}
@@ -16,50 +16,40 @@ use mir.Val.{Fits}
 use Rattle.terms.specs.Choice.{pick}
 use Rattle.formula.proofs.Cases.{below-or}
 use Rattle.plan.specs.Rows.{Summed, RowsPart}
-use Rattle.plan.specs.Book.{bitsBelow, properties, assumptions, firstBit, listed, kept, filledIn, isZero, partBits, Rowed, Chosen, Counted, Stored, Arranged}
+use Rattle.plan.specs.Book.{bitsBelow, asked, ofKind, properties, assumptions, firstBit, listed, kept, filledIn, isZero, partBits, Rowed, Chosen, Counted, Stored, Arranged}
 
 -- ---- one rule
-module _ (kinds refusals nodes nfirsts ncounts : List ℕ) (r : ℕ) where
-  pub refused-property : (getD refusals r 0 ≡ 0 → ⊥) → Chosen (properties (isZero kinds) (isZero refusals)) (partBits nodes nfirsts ncounts) r 0
-  refused-property h = record {
-    is = sym (ap (λ (t : Bool). pick (t && isZero kinds r) (partBits nodes nfirsts ncounts r) 0) (ne-eqb _ 0 h));
+module _ (kind : ℕ) (property : Bool) where
+  pub asked-property : property ≡ true → eqb kind 0 ≡ asked property (eqb kind 0)
+  asked-property e = sym (ap (λ (p : Bool). asked p (eqb kind 0)) e)
+
+  pub asked-assumption : property ≡ false → not (eqb kind 0) ≡ asked property (eqb kind 0)
+  asked-assumption e = sym (ap (λ (p : Bool). asked p (eqb kind 0)) e)
+
+module _ (kinds refusals nodes nfirsts ncounts : List ℕ) (r : ℕ) (kind : Bool) where
+  pub refused-rule : (getD refusals r 0 ≡ 0 → ⊥) → Chosen (ofKind kind (isZero kinds) (isZero refusals)) (partBits nodes nfirsts ncounts) r 0
+  refused-rule h = record {
+    is = sym (ap (λ (t : Bool). pick (t && asked kind (isZero kinds r)) (partBits nodes nfirsts ncounts r) 0) (ne-eqb _ 0 h));
     most = omega arith;
   }
 
-  pub refused-assumption : (getD refusals r 0 ≡ 0 → ⊥) → Chosen (assumptions (isZero kinds) (isZero refusals)) (partBits nodes nfirsts ncounts) r 0
-  refused-assumption h = record {
-    is = sym (ap (λ (t : Bool). pick (t && not (isZero kinds r)) (partBits nodes nfirsts ncounts r) 0) (ne-eqb _ 0 h));
-    most = omega arith;
-  }
+  module _ (e : getD refusals r 0 ≡ 0) (v : Bool) (a : v ≡ asked kind (isZero kinds r)) where
+    by-kind : pick (ofKind kind (isZero kinds) (isZero refusals) r) (partBits nodes nfirsts ncounts r) 0 ≡ pick v (partBits nodes nfirsts ncounts r) 0
+    by-kind = ap₂ (λ (t u : Bool). pick (t && u) (partBits nodes nfirsts ncounts r) 0) (eq-eqb _ 0 e) (sym a)
 
-  module _ (e : getD refusals r 0 ≡ 0) where
-    pub no-property : (getD kinds r 0 ≡ 0 → ⊥) → Chosen (properties (isZero kinds) (isZero refusals)) (partBits nodes nfirsts ncounts) r 0
-    no-property h = record {
-      is = sym (ap₂ (λ (t u : Bool). pick (t && u) (partBits nodes nfirsts ncounts r) 0) (eq-eqb _ 0 e) (ne-eqb _ 0 h));
-      most = omega arith;
+    pub other-rule : v ≡ false → Chosen (ofKind kind (isZero kinds) (isZero refusals)) (partBits nodes nfirsts ncounts) r 0
+    other-rule f = record { is = sym (by-kind ∙ ap (λ (t : Bool). pick t (partBits nodes nfirsts ncounts r) 0) f); most = omega arith }
+
+  module _ (e : getD refusals r 0 ≡ 0) (n : ℕ) (w : Rowed kinds refusals nodes nfirsts ncounts n) (l : r < n) where
+    pub part-of : RowsPart nodes (getD nfirsts r 0) (getD ncounts r 0)
+    part-of = w .parts r l e
+
+    pub asked-rule : (v : Bool) → v ≡ asked kind (isZero kinds r) → v ≡ true → (b : ℕ) → Summed nodes (getD nfirsts r 0) (getD ncounts r 0) b
+        → Chosen (ofKind kind (isZero kinds) (isZero refusals)) (partBits nodes nfirsts ncounts) r b
+    asked-rule v a t b s = record {
+      is = s .is ∙ sym (by-kind e v a ∙ ap (λ (u : Bool). pick u (partBits nodes nfirsts ncounts r) 0) t);
+      most = omega (arith, s .most, part-of .few);
     }
-
-    pub no-assumption : getD kinds r 0 ≡ 0 → Chosen (assumptions (isZero kinds) (isZero refusals)) (partBits nodes nfirsts ncounts) r 0
-    no-assumption h = record {
-      is = sym (ap₂ (λ (t u : Bool). pick (t && not u) (partBits nodes nfirsts ncounts r) 0) (eq-eqb _ 0 e) (eq-eqb _ 0 h));
-      most = omega arith;
-    }
-
-    module _ (n : ℕ) (w : Rowed kinds refusals nodes nfirsts ncounts n) (l : r < n) where
-      pub part-of : RowsPart nodes (getD nfirsts r 0) (getD ncounts r 0)
-      part-of = w .parts r l e
-
-      pub is-property : (b : ℕ) → getD kinds r 0 ≡ 0 → Summed nodes (getD nfirsts r 0) (getD ncounts r 0) b → Chosen (properties (isZero kinds) (isZero refusals)) (partBits nodes nfirsts ncounts) r b
-      is-property b h s = record {
-        is = s .is ∙ sym (ap₂ (λ (t u : Bool). pick (t && u) (partBits nodes nfirsts ncounts r) 0) (eq-eqb _ 0 e) (eq-eqb _ 0 h));
-        most = omega (arith, s .most, part-of .few);
-      }
-
-      pub is-assumption : (b : ℕ) → (getD kinds r 0 ≡ 0 → ⊥) → Summed nodes (getD nfirsts r 0) (getD ncounts r 0) b → Chosen (assumptions (isZero kinds) (isZero refusals)) (partBits nodes nfirsts ncounts) r b
-      is-assumption b h s = record {
-        is = s .is ∙ sym (ap₂ (λ (t u : Bool). pick (t && not u) (partBits nodes nfirsts ncounts r) 0) (eq-eqb _ 0 e) (ne-eqb _ 0 h));
-        most = omega (arith, s .most, part-of .few);
-      }
 
 -- ---- sums over rules
 counted-none : (chosen : ℕ → Bool) (bits : ℕ → ℕ) → Counted chosen bits 0 0
@@ -183,19 +173,21 @@ module _ (n : ℕ) (p q c d : ℕ → Bool) (f g : ℕ → ℕ) (same-kind : (r 
       pick-same (c r && to (p r)) (f r) (g r) 0 (λ e. same-bits r (omega arith) (and-first (c r) (to (p r)) e))
       ∙ ap₂ (λ (x y : Bool). pick (x && to y) (g r) 0) (same-compiled r (omega arith)) (same-kind r (omega arith))
 
-  pub same-first : (r : ℕ) → r < n → firstBit n p c f r ≡ firstBit n q d g r
-  same-first r l =
-      ap₂ (λ (u v : ℕ). pick (p r) u v) (same-chosen (λ b. b) r (omega arith))
+  pub same-first : (base r : ℕ) → r < n → firstBit base n p c f r ≡ firstBit base n q d g r
+  same-first base r l =
+      ap (λ (k : ℕ). base + k)
+      (ap₂ (λ (u v : ℕ). pick (p r) u v) (same-chosen (λ b. b) r (omega arith))
       (ap₂ _+_ (same-chosen (λ b. b) n (omega arith)) (same-chosen not r (omega arith)))
-      ∙ ap (λ (b : Bool). pick b (bitsBelow (properties q d) g r) (bitsBelow (properties q d) g n + bitsBelow (assumptions q d) g r)) (same-kind r l)
+      ∙ ap (λ (b : Bool). pick b (bitsBelow (properties q d) g r) (bitsBelow (properties q d) g n + bitsBelow (assumptions q d) g r)) (same-kind r l))
 
 one-of-two : (c q : Bool) (v p a u : ℕ) → p ≡ pick (c && q) v 0 → a ≡ pick (c && not q) v 0 → pick c (p + a) u ≡ pick c v u
 one-of-two true true v p a u e f = omega arith
 one-of-two true false v p a u e f = omega arith
 one-of-two false q v p a u e f = refl
 
--- r rules are placed: x is the next property's first bit, y the next assumption's
-pub record Arranging (kinds refusals nodes nfirsts ncounts : List ℕ) (n : ℕ) (starts starts′ bits bits′ : List ℕ) (x y r : ℕ) : Type 0 where
+-- r rules are placed: behind the base, x is the next property's first bit, y the next assumption's
+pub record Arranging (kinds refusals nodes nfirsts ncounts : List ℕ) (base n : ℕ) (starts starts′ bits bits′ : List ℕ) (x y r : ℕ) : Type 0 where
+  pub low : base < 2 ^ 63
   pub rowed : Rowed kinds refusals nodes nfirsts ncounts n
   pub in-starts : n ≤ length starts
   pub in-bits : n ≤ length bits
@@ -203,13 +195,15 @@ pub record Arranging (kinds refusals nodes nfirsts ncounts : List ℕ) (n : ℕ)
   pub next-property : Counted (properties (isZero kinds) (isZero refusals)) (partBits nodes nfirsts ncounts) r x
   pub next-assumption : y ≡ bitsBelow (properties (isZero kinds) (isZero refusals)) (partBits nodes nfirsts ncounts) n + bitsBelow (assumptions (isZero kinds) (isZero refusals)) (partBits nodes nfirsts ncounts) r
   pub most : y ≤ 16640 * n + 16640 * r
-  pub firsts-are : starts′ ≡ filledIn (isZero refusals) (firstBit n (isZero kinds) (isZero refusals) (partBits nodes nfirsts ncounts)) starts r
+  pub firsts-are : starts′ ≡ filledIn (isZero refusals) (firstBit base n (isZero kinds) (isZero refusals) (partBits nodes nfirsts ncounts)) starts r
   pub bits-are : bits′ ≡ filledIn (isZero refusals) (partBits nodes nfirsts ncounts) bits r
 
-module _ (kinds refusals nodes nfirsts ncounts : List ℕ) (n : ℕ) (starts bits : List ℕ) where
-  pub arranging-none : (y : ℕ) → Rowed kinds refusals nodes nfirsts ncounts n → n ≤ length starts → n ≤ length bits → Counted (properties (isZero kinds) (isZero refusals)) (partBits nodes nfirsts ncounts) n y → Arranging kinds refusals nodes nfirsts ncounts n starts starts bits bits 0 y 0
+module _ (kinds refusals nodes nfirsts ncounts : List ℕ) (base n : ℕ) (starts bits : List ℕ) where
+  pub arranging-none : (y : ℕ) → Rowed kinds refusals nodes nfirsts ncounts n → n ≤ length starts → n ≤ length bits → base < 2 ^ 63
+      → Counted (properties (isZero kinds) (isZero refusals)) (partBits nodes nfirsts ncounts) n y → Arranging kinds refusals nodes nfirsts ncounts base n starts starts bits bits 0 y 0
   unfolding bitsBelow listed
-  arranging-none y w a b c = record {
+  arranging-none y w a b l c = record {
+    low = l;
     rowed = w;
     in-starts = a;
     in-bits = b;
@@ -221,27 +215,33 @@ module _ (kinds refusals nodes nfirsts ncounts : List ℕ) (n : ℕ) (starts bit
     bits-are = refl;
   }
 
-  module _ (starts′ bits′ : List ℕ) (x y r : ℕ) (g : Arranging kinds refusals nodes nfirsts ncounts n starts starts′ bits bits′ x y r) where
+  module _ (starts′ bits′ : List ℕ) (x y r : ℕ) (g : Arranging kinds refusals nodes nfirsts ncounts base n starts starts′ bits bits′ x y r) where
     pub arranging-rowed : Rowed kinds refusals nodes nfirsts ncounts n
     arranging-rowed = g .rowed
 
     pub starts-length : length starts′ ≡ length starts
-    starts-length = ap length (g .firsts-are) ∙ length-sets starts 0 (listed (kept (isZero refusals) (firstBit n (isZero kinds) (isZero refusals) (partBits nodes nfirsts ncounts)) starts) r)
+    starts-length = ap length (g .firsts-are) ∙ length-sets starts 0 (listed (kept (isZero refusals) (firstBit base n (isZero kinds) (isZero refusals) (partBits nodes nfirsts ncounts)) starts) r)
 
     pub bits-length : length bits′ ≡ length bits
     bits-length = ap length (g .bits-are) ∙ length-sets bits 0 (listed (kept (isZero refusals) (partBits nodes nfirsts ncounts) bits) r)
 
-    pub arranged : n ≤ r → Arranged n (isZero kinds) (isZero refusals) (partBits nodes nfirsts ncounts) starts starts′ bits bits′
+    pub arranged : n ≤ r → Arranged base n (isZero kinds) (isZero refusals) (partBits nodes nfirsts ncounts) starts starts′ bits bits′
     arranged h =
         let e : r ≡ n = omega (arith, g .below) in
         record {
-          firsts-are = g .firsts-are ∙ ap (filledIn (isZero refusals) (firstBit n (isZero kinds) (isZero refusals) (partBits nodes nfirsts ncounts)) starts) e;
+          firsts-are = g .firsts-are ∙ ap (filledIn (isZero refusals) (firstBit base n (isZero kinds) (isZero refusals) (partBits nodes nfirsts ncounts)) starts) e;
           bits-are = g .bits-are ∙ ap (filledIn (isZero refusals) (partBits nodes nfirsts ncounts) bits) e;
         }
 
     module _ (h : r < n) where
       pub arranging-room : (r < length kinds) × ((r < length refusals) × ((r < length starts′) × (r < length bits′)))
       arranging-room = (omega (arith, g .rowed .in-kinds), (omega (arith, g .rowed .in-refusals), (omega (arith, starts-length, g .in-starts), omega (arith, bits-length, g .in-bits))))
+
+      pub first-property : Fits w64 (base + x)
+      first-property = record { fits = omega (arith, g .low, g .next-property .most, g .rowed .few) }
+
+      pub first-assumption : Fits w64 (base + y)
+      first-assumption = record { fits = omega (arith, g .low, g .most, g .rowed .few) }
 
       module _ (p a : ℕ) (d : Chosen (properties (isZero kinds) (isZero refusals)) (partBits nodes nfirsts ncounts) r p) (f : Chosen (assumptions (isZero kinds) (isZero refusals)) (partBits nodes nfirsts ncounts) r a) where
         pub both-fit : Fits w64 (p + a)
@@ -253,9 +253,11 @@ module _ (kinds refusals nodes nfirsts ncounts : List ℕ) (n : ℕ) (starts bit
         pub assumption-fits : Fits w64 (y + a)
         assumption-fits = record { fits = omega (arith, g .most, f .most, g .rowed .few) }
 
-        pub arranging-more : (starts″ bits″ : List ℕ) → Stored (isZero refusals r) (isZero kinds r) r x y (p + a) starts′ starts″ bits′ bits″ → Arranging kinds refusals nodes nfirsts ncounts n starts starts″ bits bits″ (x + p) (y + a) (r + 1)
+        pub arranging-more : (starts″ bits″ : List ℕ) → Stored (isZero refusals r) (isZero kinds r) r (base + x) (base + y) (p + a) starts′ starts″ bits′ bits″
+            → Arranging kinds refusals nodes nfirsts ncounts base n starts starts″ bits bits″ (x + p) (y + a) (r + 1)
         unfolding bitsBelow
         arranging-more starts″ bits″ s = record {
+          low = g .low;
           rowed = g .rowed;
           in-starts = g .in-starts;
           in-bits = g .in-bits;
@@ -268,7 +270,7 @@ module _ (kinds refusals nodes nfirsts ncounts : List ℕ) (n : ℕ) (starts bit
           most = omega (arith, g .most, f .most);
           firsts-are =
               s .first-is
-              ∙ ap (λ (l : List ℕ). set l r (pick (isZero refusals r) (pick (isZero kinds r) x y) (getD l r 0))) (g .firsts-are)
+              ∙ ap (λ (l : List ℕ). set l r (pick (isZero refusals r) (pick (isZero kinds r) (base + x) (base + y)) (getD l r 0))) (g .firsts-are)
               ∙ fill-more starts firsts r _ (first-value (isZero refusals r));
           bits-are =
               s .bits-are
@@ -277,14 +279,22 @@ module _ (kinds refusals nodes nfirsts ncounts : List ℕ) (n : ℕ) (starts bit
         }
           where
             firsts : ℕ → ℕ
-            firsts = kept (isZero refusals) (firstBit n (isZero kinds) (isZero refusals) (partBits nodes nfirsts ncounts)) starts
+            firsts = kept (isZero refusals) (firstBit base n (isZero kinds) (isZero refusals) (partBits nodes nfirsts ncounts)) starts
 
             widths : ℕ → ℕ
             widths = kept (isZero refusals) (partBits nodes nfirsts ncounts) bits
 
-            first-value : (c : Bool) → pick c (pick (isZero kinds r) x y) (getD (sets starts 0 (listed firsts r)) r 0) ≡ pick c (firstBit n (isZero kinds) (isZero refusals) (partBits nodes nfirsts ncounts) r) (getD starts r 0)
-            first-value true = ap₂ (λ (u v : ℕ). pick (isZero kinds r) u v) (g .next-property .is) (g .next-assumption)
+            pick-add : (c : Bool) (u v : ℕ) → pick c (base + u) (base + v) ≡ base + pick c u v
+            pick-add true u v = refl
+            pick-add false u v = refl
+
+            first-value : (c : Bool)
+                → pick c (pick (isZero kinds r) (base + x) (base + y)) (getD (sets starts 0 (listed firsts r)) r 0) ≡ pick c (firstBit base n (isZero kinds) (isZero refusals) (partBits nodes nfirsts ncounts) r) (getD starts r 0)
+            first-value true =
+                pick-add (isZero kinds r) x y
+                ∙ ap₂ (λ (u v : ℕ). base + pick (isZero kinds r) u v) (g .next-property .is) (g .next-assumption)
             first-value false = fill-same starts firsts r
 
-            bits-value : (c q : Bool) → p ≡ pick (c && q) (partBits nodes nfirsts ncounts r) 0 → a ≡ pick (c && not q) (partBits nodes nfirsts ncounts r) 0 → pick c (p + a) (getD (sets bits 0 (listed widths r)) r 0) ≡ pick c (partBits nodes nfirsts ncounts r) (getD bits r 0)
+            bits-value : (c q : Bool) → p ≡ pick (c && q) (partBits nodes nfirsts ncounts r) 0 → a ≡ pick (c && not q) (partBits nodes nfirsts ncounts r) 0
+                → pick c (p + a) (getD (sets bits 0 (listed widths r)) r 0) ≡ pick c (partBits nodes nfirsts ncounts r) (getD bits r 0)
             bits-value c q u v = one-of-two c q (partBits nodes nfirsts ncounts r) p a _ u v ∙ ap (pick c (partBits nodes nfirsts ncounts r)) (fill-same bits widths r)

@@ -143,7 +143,8 @@ module _ (nodes : List ℕ) (i n : ℕ) where
     pub slot-in-next : 7 * (i + j) + 1 < length nodes
     slot-in-next = omega (arith, p .inside)
 
-    pub slot-is : (o : ℕ) (q : Piece) → Summed nodes i j o → q ≡ pieceOf (getD nodes (7 * (i + j)) 0) (getD nodes (7 * (i + j) + 1) 0) → _≡_ {A = Slot} (record { offset = o; piece = q }) (slotIn (rowPieces nodes i n) j)
+    pub slot-is : (o : ℕ) (q : Piece) → Summed nodes i j o → q ≡ pieceOf (getD nodes (7 * (i + j)) 0) (getD nodes (7 * (i + j) + 1) 0)
+        → _≡_ {A = Slot} (record { offset = o; piece = q }) (slotIn (rowPieces nodes i n) j)
     slot-is o q s e = λ x. record {
       offset = (s .is ∙ sym (ap total (rows-take nodes i n j (omega arith)))) x;
       piece = (e ∙ sym (rows-get nodes i n j h)) x;

@@ -17,6 +17,7 @@ use Rattle.formula.specs.Formula.{Formula}
 use Rattle.formula.specs.Table.{ruleOf}
 use Rattle.formula.proofs.Trees.{some-inj, none-some, tree-spells}
 use Rattle.formula.proofs.Walks.{both-true}
+use Rattle.formula.proofs.Rules.{keep-inv}
 use Rattle.monitor.specs.declared.range.AnchorRange.{AnchorRange}
 use Rattle.monitor.specs.declared.node.SignalExpr.{SignalExpr}
 use Rattle.monitor.specs.declared.node.MonNode.{MonNode}
@@ -24,7 +25,7 @@ use Rattle.monitor.specs.declared.node.MonNode.the-variants.{RangeCheck, Delaye
 use Rattle.monitor.specs.declared.node.Row.{Row}
 use Rattle.monitor.specs.declared.node.Row.the-variants.{Node, Unknown}
 use Rattle.monitor.specs.Mon.{Signal, Check, range-check, delayed-check, obligation, Mon, check, And, Or}
-use Rattle.monitor.specs.Table.{formAt, cell, rowOf, rangeFrom, exprFrom, signalOf, Never, Join, join-and, join-or, Cell, checked, cellOf, cellAt, fromTree, keepMon, limitedMon, monOf, monBy, compiledOf}
+use Rattle.monitor.specs.Table.{formAt, cell, rowOf, rangeFrom, exprFrom, signalOf, Never, Join, join-and, join-or, Cell, checked, cellOf, cellAt, fromTree, limitedMon, monOf, monBy, compiledOf}
 use Rattle.plan.specs.Layout.{nothing, register, owing, checkPiece, pieces, total, bits}
 use Rattle.plan.specs.Rows.{pieceOf, rowPiece, rowPieces, rowBits, RowsPart}
 use Rattle.plan.specs.declared.layout.Piece.{Piece}
@@ -132,10 +133,6 @@ module _ (f : Formula) (first : ℕ) where
         (rows-add nodes (i + 1) (size l) (size r)
         ∙ ap₂ _++_ (tree-pieces l (i + 1) (s .1)) (tree-pieces r (i + 1 + size l) (s .2)))
         ∙ sym (pieces-two j l r))
-
-    keep-inv : (b : Bool) (o : Option Mon) (m : Mon) → keepMon b o ≡ some m → (b ≡ true) × (o ≡ some m)
-    keep-inv true o m e = (refl, e)
-    keep-inv false o m e = none-some e
 
     limited-inv : (o : Option (Tree Check Never Join)) (m : Mon) → limitedMon o ≡ some m → (t : Tree Check Never Join) × (o ≡ some t) × (fromTree t ≡ m)
     limited-inv none m e = none-some e

@@ -1,7 +1,7 @@
--- `width b` is the least k with b + 1 ≤ 2^k, for every b.
+-- `ceilLog2 n` is the least k with n ≤ 2^k, for every n; so `width b` is that of b + 1, for every bound b.
 use mathlib.Core.Path.{_≡_, refl, sym, ap, subst, _∙_}
 use mathlib.Core.Bool.{Bool, true, false}
-use Prim.Native.Nat.{ℕ, zero, suc, _+_, _*_, _/_, _^_, _≤_, _<_}
+use Prim.Native.Nat.{ℕ, zero, suc, _+_, _-_, _*_, _/_, _^_, _≤_, _<_}
 use native.Mathlib.Omega.{arith}
 use native.Mathlib.Nat.{two-pow-succ, pos-of-ne-zero, pow-le-pow-right}
 use native.Mathlib.Numerals.{one-add, add-one}
@@ -12,64 +12,77 @@ use Rattle.formula.proofs.Cases.{below-or}
 use mir.Syntax.{w64}
 use mir.Val.{Fits}
 use borrow.Author.Tests.{eqb-true, eqb-false}
-use Rattle.plan.specs.Width.{Width, halvings, width}
+use Rattle.plan.specs.Width.{LeastPower, halvings, ceilLog2, width}
 
 -- at most one number is the least
-pub width-only : {b j k : ℕ} → Width b j → Width b k → j ≡ k
-width-only {b} {j} {k} p q = omega (arith, p .least k (q .enough), q .least j (p .enough))
+pub least-only : {n j k : ℕ} → LeastPower n j → LeastPower n k → j ≡ k
+least-only {n} {j} {k} p q = omega (arith, p .least k (q .enough), q .least j (p .enough))
 
-width-zero : (b : ℕ) → b ≡ 0 → Width b 0
-width-zero b e = record { enough = omega arith; least = λ j h. omega arith }
+least-none : (n : ℕ) → n ≤ 1 → LeastPower n 0
+least-none n h = record { enough = omega arith; least = λ j g. omega arith }
 
--- half of b takes one bit less
-width-half : (b k : ℕ) → 0 < b → Width (b / 2) k → Width b (1 + k)
-width-half b k h w = record {
-  enough = subst (λ (n : ℕ). b + 1 ≤ 2 ^ n) (sym (one-add k)) (omega (arith, w .enough, two-pow-succ k));
+-- half of m takes one bit less
+least-half : (m k : ℕ) → 0 < m → LeastPower (m / 2 + 1) k → LeastPower (m + 1) (1 + k)
+least-half m k h w = record {
+  enough = subst (λ (n : ℕ). m + 1 ≤ 2 ^ n) (sym (one-add k)) (omega (arith, w .enough, two-pow-succ k));
   least = below;
 }
   where
-    below : (j : ℕ) → b + 1 ≤ 2 ^ j → 1 + k ≤ j
+    below : (j : ℕ) → m + 1 ≤ 2 ^ j → 1 + k ≤ j
     below zero g = absurd (omega arith)
     below (suc i) g = omega (arith, w .least i (omega (arith, two-pow-succ i)))
 
-by-test : (n b : ℕ) (t : Bool) → eqb b 0 ≡ t → b ≤ suc n → (b / 2 ≤ n → Width (b / 2) (halvings n (b / 2))) → Width b (pick t 0 (1 + halvings n (b / 2)))
-by-test n b true e h w = width-zero b (eqb-true b 0 e)
-by-test n b false e h w = positive (eqb-false b 0 e)
+by-test : (n m : ℕ) (t : Bool) → eqb m 0 ≡ t → m ≤ suc n → (m / 2 ≤ n → LeastPower (m / 2 + 1) (halvings n (m / 2)))
+    → LeastPower (m + 1) (pick t 0 (1 + halvings n (m / 2)))
+by-test n m true e h w = least-none (m + 1) (omega (arith, eqb-true m 0 e))
+by-test n m false e h w = positive (eqb-false m 0 e)
   where
-    positive : (b ≡ 0 → ⊥) → Width b (1 + halvings n (b / 2))
+    positive : (m ≡ 0 → ⊥) → LeastPower (m + 1) (1 + halvings n (m / 2))
     positive z =
-        let m : 0 < b = pos-of-ne-zero z in
-        width-half b (halvings n (b / 2)) m (w (omega arith))
+        let p : 0 < m = pos-of-ne-zero z in
+        least-half m (halvings n (m / 2)) p (w (omega arith))
 
-enough-halvings : (n b : ℕ) → b ≤ n → Width b (halvings n b)
+enough-halvings : (n m : ℕ) → m ≤ n → LeastPower (m + 1) (halvings n m)
 unfolding halvings
-enough-halvings zero b h = width-zero b (omega arith)
-enough-halvings (suc n) b h = by-test n b (eqb b 0) refl h (enough-halvings n (b / 2))
+enough-halvings zero m h = least-none (m + 1) (omega arith)
+enough-halvings (suc n) m h = by-test n m (eqb m 0) refl h (enough-halvings n (m / 2))
 
-pub width-least : (b : ℕ) → Width b (width b)
-unfolding width
-width-least b = enough-halvings b b (omega arith)
+-- the law of `ceilLog2`: enough and least, for every n
+pub ceil-log2 : (n : ℕ) → LeastPower n (ceilLog2 n)
+unfolding ceilLog2 halvings
+ceil-log2 zero = least-none 0 (omega arith)
+ceil-log2 (suc m) =
+    let e : suc m - 1 + 1 ≡ suc m = omega arith in
+    subst (λ (n : ℕ). LeastPower n (halvings (suc m - 1) (suc m - 1))) e (enough-halvings (suc m - 1) (suc m - 1) (omega arith))
+
+pub two-pow-pos : (k : ℕ) → 0 < 2 ^ k
+two-pow-pos zero = omega arith
+two-pow-pos (suc k) = omega (arith, two-pow-pos k, two-pow-succ k)
+
+-- so it is k + 1 for every n past 2^k and up to 2^(k+1)
+pub ceil-log2-is : (n k : ℕ) → 2 ^ k < n → n ≤ 2 ^ (k + 1) → ceilLog2 n ≡ k + 1
+ceil-log2-is n k above upto = least-only (ceil-log2 n) (record { enough = upto; least = below })
+  where
+    below : (j : ℕ) → n ≤ 2 ^ j → k + 1 ≤ j
+    below j h = ⊎-elim
+        (λ l.
+        let e : j ≤ k = omega arith in
+        let z : 0 < 2 = omega arith in
+        let m : 2 ^ j ≤ 2 ^ k = pow-le-pow-right z e in
+        absurd (omega arith))
+        (λ l. l)
+        (below-or j (k + 1))
 
 -- ---- the loop that halves
 pub width-nought : width 0 ≡ 0
-width-nought = width-only (width-least 0) (width-zero 0 refl)
+width-nought = least-only (ceil-log2 (0 + 1)) (least-none (0 + 1) (omega arith))
 
-pub width-step : (n : ℕ) → 0 < n → width n ≡ 1 + width (n / 2)
-width-step n h = width-only (width-least n) (width-half n (width (n / 2)) h (width-least (n / 2)))
+pub width-step : (m : ℕ) → 0 < m → width m ≡ 1 + width (m / 2)
+width-step m h = least-only (ceil-log2 (m + 1)) (least-half m (width (m / 2)) h (ceil-log2 (m / 2 + 1)))
 
 -- 64 bits hold every bound
 pub width-most : (b : ℕ) → b < 2 ^ 64 → width b ≤ 64
-width-most b h = width-least b .least 64 (omega arith)
-
--- 2^64 - 1, the largest bound, takes all 64
-pub width-largest : width 18446744073709551615 ≡ 64
-width-largest = width-only (width-least 18446744073709551615) (record { enough = omega arith; least = most })
-  where
-    most : (j : ℕ) → 18446744073709551615 + 1 ≤ 2 ^ j → 64 ≤ j
-    most j h = ⊎-elim
-        (λ k. let e : j ≤ 63 = omega arith in let z : 0 < 2 = omega arith in let m : 2 ^ j ≤ 2 ^ 63 = pow-le-pow-right z e in absurd (omega arith))
-        (λ k. k)
-        (below-or j 64)
+width-most b h = ceil-log2 (b + 1) .least 64 (omega arith)
 
 -- after k halvings of b, n is left
 pub record Halved (b n k : ℕ) : Type 0 where
@@ -90,3 +103,13 @@ halved-all b n k h z = omega (arith, h .is, ap width (le-zero n z), width-nought
   where
     le-zero : (m : ℕ) → m ≤ 0 → m ≡ 0
     le-zero m e = omega arith
+
+-- ---- ceil_log2 by that loop
+pub log-none : (n : ℕ) → n ≡ 0 → 0 ≡ ceilLog2 n
+log-none n e = least-only (least-none n (omega arith)) (ceil-log2 n)
+
+pub log-past : (n r : ℕ) → (n ≡ 0 → ⊥) → r ≡ width (n - 1) → r ≡ ceilLog2 n
+log-past n r h e =
+    let p : 0 < n = pos-of-ne-zero h in
+    let z : n - 1 + 1 ≡ n = omega arith in
+    e ∙ ap ceilLog2 z

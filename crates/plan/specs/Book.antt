@@ -1,4 +1,5 @@
--- Document 01, "Layout", over a book: properties come first, then assumptions, each in book order, from bit 0; rules that do not compile are skipped.
+-- Document 01, "Layout", over a book: properties come first, then assumptions, each in book order; rules that do not compile are skipped. The
+-- first rule's bits begin at bit `base`, which document 01 has as 0.
 -- A book is given by what is known of rule r: whether it is a property, whether it compiles, and its bits.
 use mathlib.Core.Bool.{Bool, true, false, _&&_, not}
 use mathlib.Core.List.{List, [], _∷_, _++_}
@@ -16,17 +17,26 @@ unfoldable pub bitsBelow : (ℕ → Bool) → (ℕ → ℕ) → ℕ → ℕ
 bitsBelow chosen bits zero = 0
 bitsBelow chosen bits (suc r) = bitsBelow chosen bits r + pick (chosen r) (bits r) 0
 
--- the properties that compile, and the assumptions that do
+-- a rule is what is asked: a property, or else an assumption
+abbrev pub asked : Bool → Bool → Bool
+asked true property = property
+asked false property = not property
+
+-- the rules of a kind that compile
+abbrev pub ofKind : Bool → (ℕ → Bool) → (ℕ → Bool) → ℕ → Bool
+ofKind kind property compiled r = compiled r && asked kind (property r)
+
 abbrev pub properties : (ℕ → Bool) → (ℕ → Bool) → ℕ → Bool
-properties property compiled r = compiled r && property r
+properties = ofKind true
 
 abbrev pub assumptions : (ℕ → Bool) → (ℕ → Bool) → ℕ → Bool
-assumptions property compiled r = compiled r && not (property r)
+assumptions = ofKind false
 
 -- the first bit of rule r among n: behind the properties before it, or, for an assumption, behind all properties and the assumptions before it
-abbrev pub firstBit : ℕ → (ℕ → Bool) → (ℕ → Bool) → (ℕ → ℕ) → ℕ → ℕ
-firstBit n property compiled bits r =
-    pick (property r) (bitsBelow (properties property compiled) bits r)
+abbrev pub firstBit : ℕ → ℕ → (ℕ → Bool) → (ℕ → Bool) → (ℕ → ℕ) → ℕ → ℕ
+firstBit base n property compiled bits r =
+    base
+    + pick (property r) (bitsBelow (properties property compiled) bits r)
     (bitsBelow (properties property compiled) bits n + bitsBelow (assumptions property compiled) bits r)
 
 -- the first r values of a function
@@ -72,6 +82,6 @@ pub record Stored (compiled property : Bool) (r x y b : ℕ) (firsts firsts′ b
   pub bits-are : bits′ ≡ set bits r (pick compiled b (getD bits r 0))
 
 -- what the layout of n rules leaves in the two outputs
-pub record Arranged (n : ℕ) (property compiled : ℕ → Bool) (width : ℕ → ℕ) (firsts firsts′ bits bits′ : List ℕ) : Type 0 where
-  pub firsts-are : firsts′ ≡ filledIn compiled (firstBit n property compiled width) firsts n
+pub record Arranged (base n : ℕ) (property compiled : ℕ → Bool) (width : ℕ → ℕ) (firsts firsts′ bits bits′ : List ℕ) : Type 0 where
+  pub firsts-are : firsts′ ≡ filledIn compiled (firstBit base n property compiled width) firsts n
   pub bits-are : bits′ ≡ filledIn compiled width bits n

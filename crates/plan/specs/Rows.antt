@@ -6,16 +6,17 @@ use mathlib.Core.List.{List, [], _∷_}
 use Prim.Native.Nat.{ℕ, zero, suc, _+_, _*_, _≤_, _<_}
 use lib.Dec.{eqb}
 use lib.ListN.{length, getD}
-use Rattle.terms.specs.Limits.{ruleNodes}
+use Rattle.terms.specs.Limits.{rowCells, ruleNodes}
 use Rattle.terms.specs.Choice.{pick}
+use Rattle.terms.specs.Forms.{delayedForm, obligationForm}
 use Rattle.plan.specs.Layout.{nothing, register, owing, breadth, total}
 use Rattle.plan.specs.declared.layout.Piece.{Piece}
 
 abbrev pub pieceOf : ℕ → ℕ → Piece
-pieceOf form bound = pick (eqb form 1) register (pick (eqb form 2) (owing bound) nothing)
+pieceOf form bound = pick (eqb form delayedForm) register (pick (eqb form obligationForm) (owing bound) nothing)
 
 abbrev pub rowPiece : List ℕ → ℕ → Piece
-rowPiece nodes i = pieceOf (getD nodes (7 * i) 0) (getD nodes (7 * i + 1) 0)
+rowPiece nodes i = pieceOf (getD nodes (rowCells * i) 0) (getD nodes (rowCells * i + 1) 0)
 
 -- n rows from row i on
 unfoldable pub rowPieces : List ℕ → ℕ → ℕ → List Piece
@@ -38,4 +39,4 @@ pub record Summed (nodes : List ℕ) (i n r : ℕ) : Type 0 where
 -- rows i up to i + n of at most 256, all in the table
 pub record RowsPart (nodes : List ℕ) (i n : ℕ) : Type 0 where
   pub few : n ≤ ruleNodes
-  pub inside : 7 * (i + n) ≤ length nodes
+  pub inside : rowCells * (i + n) ≤ length nodes

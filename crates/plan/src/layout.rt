@@ -1,13 +1,17 @@
 // The bits of a node, of a rule and of a book's rules.
 use terms::form::DELAYED;
 use terms::form::OBLIGATION;
+use terms::kind::PROPERTY;
+use terms::limit::ROW_CELLS;
 ghost use mathlib.Core.Path.{_≡_};
-ghost use Prim.Native.Nat.{_+_, _*_, _<_, _≤_};
+ghost use Prim.Native.Nat.{_+_, _*_, _^_, _<_, _≤_};
+ghost use lib.Dec.{eqb};
 ghost use lib.ListN.{length};
-ghost use Rattle.plan.specs.Width.{width};
+ghost use Rattle.terms.specs.Kinds.{propertyKind};
+ghost use Rattle.plan.specs.Width.{ceilLog2, width};
 ghost use Rattle.plan.specs.Layout.{slotIn};
 ghost use Rattle.plan.specs.Rows.{pieceOf, rowPieces, Breadth, Summed, RowsPart};
-ghost use Rattle.plan.specs.Book.{properties, assumptions, isZero, partBits, Rowed, Chosen, Counted, Stored, Arranged};
+ghost use Rattle.plan.specs.Book.{asked, ofKind, properties, isZero, partBits, Rowed, Chosen, Counted, Stored, Arranged};
 
 // The bits of one node: of the pending flag, of the remaining count, of the remembered antecedent.
 pub struct Piece {
@@ -22,7 +26,7 @@ pub struct Slot {
     pub piece: Piece,
 }
 
-// The least k with b + 1 at most 2^k.
+// The bits that hold the numbers 0 to b: `ceil_log2` of b + 1, for the largest b too.
 pub fn width_of(b: u64) -> u64
     ensures { λ r. ⌜ r ≡ width b ⌝ }
 {
@@ -33,6 +37,16 @@ pub fn width_of(b: u64) -> u64
         k += 1;
     }
     k
+}
+
+// The least k with n at most 2^k: 0 for 0 and 1.
+pub fn ceil_log2(n: u64) -> u64
+    ensures { λ r. ⌜ r ≡ ceilLog2 n ⌝ }
+{
+    if n == 0 {
+        return 0;
+    }
+    width_of(n - 1)
 }
 
 // The bits of a node of a form with a bound.
@@ -86,7 +100,7 @@ pub fn rule_bits(nodes: &[u64], nfirst: usize, n: usize) -> u64
     let mut sum: u64 = 0;
     let mut j: usize = 0;
     while j < n {
-        let i = 7 * (nfirst + j);
+        let i = ROW_CELLS * (nfirst + j);
         sum += breadth_of(nodes[i], nodes[i + 1]);
         j += 1;
     }
@@ -99,36 +113,23 @@ pub fn slot_of(nodes: &[u64], nfirst: usize, n: usize, j: usize) -> Slot
     ensures { λ r. ⌜ r ≡ slotIn (rowPieces (now (nodes .entry)) nfirst n) j ⌝ }
 {
     let offset = rule_bits(nodes, nfirst, j);
-    let i = 7 * (nfirst + j);
+    let i = ROW_CELLS * (nfirst + j);
     let piece = piece_of(nodes[i], nodes[i + 1]);
     Slot { offset, piece }
 }
 
-// The bits of rule r, if it is a property that compiles, else 0.
-fn property_at(
-    kinds: &[u8],
-    refusals: &[u64],
-    nodes: &[u64],
-    nfirsts: &[usize],
-    ncounts: &[usize],
-    n: usize,
-    r: usize,
-) -> u64
-    requires { ⌜ (Rowed (now kinds) (now refusals) (now nodes) (now nfirsts) (now ncounts) n) × (r < n) ⌝ }
-    ensures { λ b. ⌜ Chosen (properties (isZero (now (kinds .entry))) (isZero (now (refusals .entry))))
-        (partBits (now (nodes .entry)) (now (nfirsts .entry)) (now (ncounts .entry))) r b ⌝ }
+// Whether a rule of a kind is what is asked: a property, or else an assumption.
+fn is_asked(kind: u8, property: bool) -> bool
+    ensures { λ b. ⌜ b ≡ asked property (eqb kind propertyKind) ⌝ }
 {
-    if refusals[r] != 0 {
-        return 0;
+    if property {
+        return kind == PROPERTY;
     }
-    if kinds[r] != 0 {
-        return 0;
-    }
-    rule_bits(nodes, nfirsts[r], ncounts[r])
+    kind != PROPERTY
 }
 
-// The bits of rule r, if it is an assumption that compiles, else 0.
-fn assumption_at(
+// The bits of rule r, if it compiles and is a property, or an assumption, as is asked; else 0.
+fn chosen_bits(
     kinds: &[u8],
     refusals: &[u64],
     nodes: &[u64],
@@ -136,18 +137,19 @@ fn assumption_at(
     ncounts: &[usize],
     n: usize,
     r: usize,
+    property: bool,
 ) -> u64
     requires { ⌜ (Rowed (now kinds) (now refusals) (now nodes) (now nfirsts) (now ncounts) n) × (r < n) ⌝ }
-    ensures { λ b. ⌜ Chosen (assumptions (isZero (now (kinds .entry))) (isZero (now (refusals .entry))))
+    ensures { λ b. ⌜ Chosen (ofKind property (isZero (now (kinds .entry))) (isZero (now (refusals .entry))))
         (partBits (now (nodes .entry)) (now (nfirsts .entry)) (now (ncounts .entry))) r b ⌝ }
 {
     if refusals[r] != 0 {
         return 0;
     }
-    if kinds[r] == 0 {
-        return 0;
+    if is_asked(kinds[r], property) {
+        return rule_bits(nodes, nfirsts[r], ncounts[r]);
     }
-    rule_bits(nodes, nfirsts[r], ncounts[r])
+    0
 }
 
 // The bits of all properties that compile.
@@ -166,7 +168,7 @@ fn property_bits(
     let mut sum: u64 = 0;
     let mut r: usize = 0;
     while r < n {
-        sum += property_at(kinds, refusals, nodes, nfirsts, ncounts, n, r);
+        sum += chosen_bits(kinds, refusals, nodes, nfirsts, ncounts, n, r, true);
         r += 1;
     }
     sum
@@ -191,14 +193,14 @@ fn store(
         return;
     }
     bits[r] = b;
-    if kinds[r] == 0 {
+    if kinds[r] == PROPERTY {
         starts[r] = x;
         return;
     }
     starts[r] = y;
 }
 
-// The first bits and the bits of n rules, by the rows of the node table.
+// The first bits and the bits of n rules, by the rows of the node table. The first rule's begin at bit `base`.
 pub fn arrange(
     kinds: &[u8],
     refusals: &[u64],
@@ -206,11 +208,13 @@ pub fn arrange(
     nfirsts: &[usize],
     ncounts: &[usize],
     n: usize,
+    base: u64,
     starts: &mut [u64],
     bits: &mut [u64],
 )
-    requires { ⌜ (Rowed (now kinds) (now refusals) (now nodes) (now nfirsts) (now ncounts) n) × ((n ≤ length (now starts)) × (n ≤ length (now bits))) ⌝ }
-    ensures { λ u. ⌜ Arranged n (isZero (now (kinds .entry))) (isZero (now (refusals .entry)))
+    requires { ⌜ (Rowed (now kinds) (now refusals) (now nodes) (now nfirsts) (now ncounts) n)
+        × ((n ≤ length (now starts)) × ((n ≤ length (now bits)) × (base < 2 ^ 63))) ⌝ }
+    ensures { λ u. ⌜ Arranged base n (isZero (now (kinds .entry))) (isZero (now (refusals .entry)))
         (partBits (now (nodes .entry)) (now (nfirsts .entry)) (now (ncounts .entry))) (now (starts .entry)) (now (starts .exit)) (now (bits .entry))
         (now (bits .exit)) ⌝ }
 {
@@ -218,9 +222,9 @@ pub fn arrange(
     let mut y: u64 = property_bits(kinds, refusals, nodes, nfirsts, ncounts, n);
     let mut r: usize = 0;
     while r < n {
-        let p = property_at(kinds, refusals, nodes, nfirsts, ncounts, n, r);
-        let a = assumption_at(kinds, refusals, nodes, nfirsts, ncounts, n, r);
-        store(kinds, refusals, r, x, y, p + a, starts, bits);
+        let p = chosen_bits(kinds, refusals, nodes, nfirsts, ncounts, n, r, true);
+        let a = chosen_bits(kinds, refusals, nodes, nfirsts, ncounts, n, r, false);
+        store(kinds, refusals, r, base + x, base + y, p + a, starts, bits);
         x += p;
         y += a;
         r += 1;

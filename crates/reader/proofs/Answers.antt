@@ -8,65 +8,74 @@ use native.Mathlib.Omega.{arith}
 use borrow.Author.Tests.{le-leb, lt-leb, leb-true}
 use lib.Dec.{leb}
 use lib.ListN.{length}
+use Rattle.terms.specs.Limits.{bookNodes, bookRules}
 use Rattle.terms.specs.Choice.{pick}
 use Rattle.line.specs.Text.{lines}
 use Rattle.line.specs.Line.{parse}
+use Rattle.line.specs.declared.line.Flaw.the-variants as flaw
 use Rattle.line.proofs.Parts.{lines-few}
-use Rattle.book.specs.Book.{Book, empty, whole, Fault, word, place, label, number, limit, numberOf, fault, add, unless, readOn, ended, Outcome, accepted, refused, BookResult, contents, refusal, bookResult, read}
+use Rattle.book.specs.Book.{Fault, word, place, field, limit, numberOf}
+use Rattle.book.specs.Book.{Book, empty, whole, fault, addLine, unless, readOn, ended, Outcome, accepted, refused, BookResult, contents, refusal, bookResult, read}
 use Rattle.book.specs.Checked as Checking
 use Rattle.book.specs.declared.check.Checked as checked
 use Rattle.book.specs.declared.check.Checked.the-variants as check
-use Rattle.reader.specs.Tables.{BookTables, written, roomy, readInto, after}
+use Rattle.reader.specs.Tables.{BookTables, columns, written, roomy, readInto, after}
 use Rattle.reader.specs.Filled.{Fillable, FilledTables}
 use Rattle.reader.specs.Answer.{Roomy, Reads, resultOf}
+use Rattle.reader.proofs.Runs.{roomy-is}
 use Rattle.reader.specs.declared.read.Answer.{Answer}
 use Rattle.reader.specs.declared.read.Answer.the-variants.{Read, Refused}
 
 pub has-room : (t : BookTables) → Roomy t → roomy t ≡ true
 unfolding roomy
-has-room t r = rw (le-leb 2048 (length (t .labels)) (r .labels), le-leb 64 (length (t .lens)) (r .lens), le-leb 64 (length (t .kinds)) (r .kinds), le-leb 64 (length (t .firsts)) (r .firsts), le-leb 64 (length (t .counts)) (r .counts), le-leb 1024 (length (t .ops)) (r .ops), le-leb 1024 (length (t .nums)) (r .nums)) refl
+has-room t r =
+    rw (
+      le-leb 2048 (length (t .labels)) (r .labels),
+      le-leb 64 (length (t .lens)) (r .lens),
+      le-leb 64 (length (t .kinds)) (r .kinds),
+      le-leb 64 (length (t .firsts)) (r .firsts),
+      le-leb 64 (length (t .counts)) (r .counts),
+      le-leb 1024 (length (t .ops)) (r .ops),
+      le-leb 1024 (length (t .nums)) (r .nums),
+    ) refl
 
 into-roomy : (text : List ℕ) (t : BookTables) → Roomy t → readInto text t ≡ read text
 unfolding readInto
 into-roomy text t r = ap (λ (b : Bool). pick b (read text) (refused 1 0)) (has-room t r)
 
 -- ---- a table that is too short
-no-room : (text : List ℕ) (t : BookTables) → roomy t ≡ false → Reads text t (Refused 1 0) t
+no-room : (text : List ℕ) (t : BookTables) → (Roomy t → ⊥) → Reads text t (Refused 1 0) t
 unfolding readInto after
-no-room text t e = record { answer = rw e refl; tables = rw e refl }
-
-false-and : (a b : Bool) → b ≡ false → (a && b) ≡ false
-false-and true b e = e
-false-and false b e = refl
+no-room text t h = go (roomy t) refl
+  where
+    go : (m : Bool) → roomy t ≡ m → Reads text t (Refused 1 0) t
+    go true e = absurd (h (roomy-is t e))
+    go false e = record { answer = rw e refl; tables = rw e refl }
 
 module _ (text labels lens kinds firsts counts ops nums : List ℕ) where
-  pub short-labels : length labels < 2048 → Reads text (record { labels = labels; lens = lens; kinds = kinds; firsts = firsts; counts = counts; ops = ops; nums = nums }) (Refused 1 0) (record { labels = labels; lens = lens; kinds = kinds; firsts = firsts; counts = counts; ops = ops; nums = nums })
-  unfolding roomy
-  short-labels h = no-room text (record { labels = labels; lens = lens; kinds = kinds; firsts = firsts; counts = counts; ops = ops; nums = nums }) (ap (λ (b : Bool). b && (leb 64 (length lens) && (leb 64 (length kinds) && (leb 64 (length firsts) && (leb 64 (length counts) && (leb 1024 (length ops) && (leb 1024 (length nums)))))))) (lt-leb 2048 (length labels) h))
+  abbrev NoRoom : Type 0
+  NoRoom = Reads text (columns labels lens kinds firsts counts ops nums) (Refused 1 0) (columns labels lens kinds firsts counts ops nums)
 
-  pub short-lens : length lens < 64 → Reads text (record { labels = labels; lens = lens; kinds = kinds; firsts = firsts; counts = counts; ops = ops; nums = nums }) (Refused 1 0) (record { labels = labels; lens = lens; kinds = kinds; firsts = firsts; counts = counts; ops = ops; nums = nums })
-  unfolding roomy
-  short-lens h = no-room text (record { labels = labels; lens = lens; kinds = kinds; firsts = firsts; counts = counts; ops = ops; nums = nums }) (false-and (leb 2048 (length labels)) _ (ap (λ (b : Bool). b && (leb 64 (length kinds) && (leb 64 (length firsts) && (leb 64 (length counts) && (leb 1024 (length ops) && (leb 1024 (length nums))))))) (lt-leb 64 (length lens) h)))
+  pub short-labels : length labels < 2048 → NoRoom
+  short-labels h = no-room text (columns labels lens kinds firsts counts ops nums) (λ r. omega (arith, r .labels))
 
-  pub short-kinds : length kinds < 64 → Reads text (record { labels = labels; lens = lens; kinds = kinds; firsts = firsts; counts = counts; ops = ops; nums = nums }) (Refused 1 0) (record { labels = labels; lens = lens; kinds = kinds; firsts = firsts; counts = counts; ops = ops; nums = nums })
-  unfolding roomy
-  short-kinds h = no-room text (record { labels = labels; lens = lens; kinds = kinds; firsts = firsts; counts = counts; ops = ops; nums = nums }) (false-and (leb 2048 (length labels)) _ (false-and (leb 64 (length lens)) _ (ap (λ (b : Bool). b && (leb 64 (length firsts) && (leb 64 (length counts) && (leb 1024 (length ops) && (leb 1024 (length nums)))))) (lt-leb 64 (length kinds) h))))
+  pub short-lens : length lens < bookRules → NoRoom
+  short-lens h = no-room text (columns labels lens kinds firsts counts ops nums) (λ r. omega (arith, r .lens))
 
-  pub short-firsts : length firsts < 64 → Reads text (record { labels = labels; lens = lens; kinds = kinds; firsts = firsts; counts = counts; ops = ops; nums = nums }) (Refused 1 0) (record { labels = labels; lens = lens; kinds = kinds; firsts = firsts; counts = counts; ops = ops; nums = nums })
-  unfolding roomy
-  short-firsts h = no-room text (record { labels = labels; lens = lens; kinds = kinds; firsts = firsts; counts = counts; ops = ops; nums = nums }) (false-and (leb 2048 (length labels)) _ (false-and (leb 64 (length lens)) _ (false-and (leb 64 (length kinds)) _ (ap (λ (b : Bool). b && (leb 64 (length counts) && (leb 1024 (length ops) && (leb 1024 (length nums))))) (lt-leb 64 (length firsts) h)))))
+  pub short-kinds : length kinds < bookRules → NoRoom
+  short-kinds h = no-room text (columns labels lens kinds firsts counts ops nums) (λ r. omega (arith, r .kinds))
 
-  pub short-counts : length counts < 64 → Reads text (record { labels = labels; lens = lens; kinds = kinds; firsts = firsts; counts = counts; ops = ops; nums = nums }) (Refused 1 0) (record { labels = labels; lens = lens; kinds = kinds; firsts = firsts; counts = counts; ops = ops; nums = nums })
-  unfolding roomy
-  short-counts h = no-room text (record { labels = labels; lens = lens; kinds = kinds; firsts = firsts; counts = counts; ops = ops; nums = nums }) (false-and (leb 2048 (length labels)) _ (false-and (leb 64 (length lens)) _ (false-and (leb 64 (length kinds)) _ (false-and (leb 64 (length firsts)) _ (ap (λ (b : Bool). b && (leb 1024 (length ops) && (leb 1024 (length nums)))) (lt-leb 64 (length counts) h))))))
+  pub short-firsts : length firsts < bookRules → NoRoom
+  short-firsts h = no-room text (columns labels lens kinds firsts counts ops nums) (λ r. omega (arith, r .firsts))
 
-  pub short-ops : length ops < 1024 → Reads text (record { labels = labels; lens = lens; kinds = kinds; firsts = firsts; counts = counts; ops = ops; nums = nums }) (Refused 1 0) (record { labels = labels; lens = lens; kinds = kinds; firsts = firsts; counts = counts; ops = ops; nums = nums })
-  unfolding roomy
-  short-ops h = no-room text (record { labels = labels; lens = lens; kinds = kinds; firsts = firsts; counts = counts; ops = ops; nums = nums }) (false-and (leb 2048 (length labels)) _ (false-and (leb 64 (length lens)) _ (false-and (leb 64 (length kinds)) _ (false-and (leb 64 (length firsts)) _ (false-and (leb 64 (length counts)) _ (ap (λ (b : Bool). b && (leb 1024 (length nums))) (lt-leb 1024 (length ops) h)))))))
+  pub short-counts : length counts < bookRules → NoRoom
+  short-counts h = no-room text (columns labels lens kinds firsts counts ops nums) (λ r. omega (arith, r .counts))
 
-  pub short-nums : length nums < 1024 → Reads text (record { labels = labels; lens = lens; kinds = kinds; firsts = firsts; counts = counts; ops = ops; nums = nums }) (Refused 1 0) (record { labels = labels; lens = lens; kinds = kinds; firsts = firsts; counts = counts; ops = ops; nums = nums })
-  unfolding roomy
-  short-nums h = no-room text (record { labels = labels; lens = lens; kinds = kinds; firsts = firsts; counts = counts; ops = ops; nums = nums }) (false-and (leb 2048 (length labels)) _ (false-and (leb 64 (length lens)) _ (false-and (leb 64 (length kinds)) _ (false-and (leb 64 (length firsts)) _ (false-and (leb 64 (length counts)) _ (false-and (leb 1024 (length ops)) _ (lt-leb 1024 (length nums) h)))))))
+  pub short-ops : length ops < bookNodes → NoRoom
+  short-ops h = no-room text (columns labels lens kinds firsts counts ops nums) (λ r. omega (arith, r .ops))
+
+  pub short-nums : length nums < bookNodes → NoRoom
+  short-nums h = no-room text (columns labels lens kinds firsts counts ops nums) (λ r. omega (arith, r .nums))
 
 -- ---- by what the check answers
 result-refused : (o : Outcome) (n k : ℕ) → refusal n k ≡ bookResult o → o ≡ refused n k
@@ -96,10 +105,10 @@ module _ (text : List ℕ) (t : BookTables) (room : Roomy t) (c : checked.Checke
       let o : readInto text t ≡ refused n k = into-roomy text t room ∙ result-refused (read text) n k (sym (ap Checking.resultOf e) ∙ is) in
       record { answer = rw o refl; tables = rw o refl }
 
-  pub read-fillable : (r n h : ℕ) → c ≡ check.Good r n h → Fillable text t
+  pub read-fillable : (r n h : ℕ) → c ≡ check.Good r n h → Fillable text h t
   read-fillable r n h e =
       let (b, o, a) = result-contents (read text) r n h (sym (ap Checking.resultOf e) ∙ is) in
-      record { book = b; is = o; room = has-room t room }
+      record { book = b; is = o; begin = a .head; room = has-room t room }
 
   pub read-good : (r n h : ℕ) (t′ : BookTables) → c ≡ check.Good r n h → FilledTables text t t′ → Reads text t (Read r n h) t′
   unfolding after
@@ -111,7 +120,9 @@ module _ (text : List ℕ) (t : BookTables) (room : Roomy t) (c : checked.Checke
       }
 
 -- ---- for callers: what an answer says
-pub read-inv : (text : List ℕ) (t t′ : BookTables) (r n h : ℕ) → Reads text t (Read r n h) t′ → (b : Book) × (readInto text t ≡ accepted b) × (t′ ≡ written b t) × (r ≡ length (b .labels)) × (n ≡ length (b .ops)) × (h ≡ b .head)
+pub read-inv : (text : List ℕ) (t t′ : BookTables) (r n h : ℕ)
+    → Reads text t (Read r n h) t′
+    → (b : Book) × (readInto text t ≡ accepted b) × (t′ ≡ written b t) × (r ≡ length (b .labels)) × (n ≡ length (b .ops)) × (h ≡ b .head)
 unfolding after
 read-inv text t t′ r n h u =
     let (b, o, a) = result-contents (readInto text t) r n h (u .answer) in
@@ -137,8 +148,8 @@ accepted-not e = let z : _≡_ {A = ℕ} 0 1 = cc in absurd (omega arith)
 fault-low : (f : Fault) → numberOf f ≤ 10
 fault-low word = omega arith
 fault-low place = omega arith
-fault-low label = omega arith
-fault-low number = omega arith
+fault-low (field flaw.Label) = omega arith
+fault-low (field flaw.Number) = omega arith
 fault-low limit = omega arith
 
 read-small : (b : Book) (i : ℕ) (ls : List (List ℕ)) (n k : ℕ) → i + length ls ≤ 65535 → readOn b i ls ≡ refused n k → Small n k
@@ -148,7 +159,7 @@ read-small b i [] n k h e = go (whole b) e
     go : (t : Bool) → pick t (accepted b) (refused 10 i) ≡ refused n k → Small n k
     go true e = accepted-not e
     go false e = let (p, q) = refused-is e in record { number = omega arith; line = omega arith }
-read-small b i (l ∷ ls) n k h e = go (fault b (parse l)) e (read-small (add (length l + 1) b (parse l)) (i + 1) ls n k (omega arith))
+read-small b i (l ∷ ls) n k h e = go (fault b (parse l)) e (read-small (addLine (length l + 1) b (parse l)) (i + 1) ls n k (omega arith))
   where
     go : {o : Outcome} (f : Option Fault) → unless f i o ≡ refused n k → (o ≡ refused n k → Small n k) → Small n k
     go none e ih = ih e

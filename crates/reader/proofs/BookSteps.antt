@@ -14,18 +14,21 @@ use lib.ListN.{length, take, drop, length-drop, drop-of-length-le}
 use lib.Seq.{drop-drop, length-take-le}
 use Rattle.terms.specs.Choice.{pick}
 use Rattle.line.specs.Text.{lines, parts, firstAt, Found}
-use Rattle.line.specs.Line.{Line, bad, rule, wrong-rule, node, wrong-node, step, wrong-step, parse}
-use Rattle.line.specs.Means.{means, LineIs}
+use Rattle.line.specs.Line.{Content, rule, node, step, Line, bad, wrong, right, parse}
+use Rattle.line.specs.Means.{held, means, LineIs}
+use Rattle.line.specs.declared.line.Content as held-type
+use Rattle.line.specs.declared.line.Content.the-variants as contents
 use Rattle.line.specs.declared.line.Line as code
 use Rattle.line.specs.declared.line.Line.the-variants as code-lines
+use Rattle.line.proofs.line.Content as content-type
 use Rattle.line.proofs.line.Line as line-type
 use Rattle.line.proofs.Parts.{lines-next, lines-none, first-inside}
-use Rattle.book.specs.Book.{Book, StepLine, empty, isNil, whole, Fault, sortOf, isLine, stands, labelled, numbered, fault, add, Outcome, accepted, refused, unless, readOn, ended, read}
+use Rattle.book.specs.Book.{Book, StepLine, empty, isNil, whole, Fault, stands, fault, add, addLine, Outcome, accepted, refused, unless, readOn, ended, read}
 use Rattle.result.specs.Result.{given}
-use Rattle.reader.specs.Steps.{asStep, Next, nextAt, nextIn, nextStep, resultOf, before, stepsOf, stepsFrom}
+use Rattle.reader.specs.Steps.{stepIn, asStep, Next, nextAt, nextIn, nextStep, resultOf, before, stepsOf, stepsFrom}
 use Rattle.reader.specs.declared.steps.StepRead.the-variants.{Step, End}
 use Rattle.book.proofs.Checks.{ended-drop, ended-found}
-use Rattle.reader.proofs.Sounds.{both, Passed, passed}
+use Rattle.reader.proofs.Sounds.{both, Passed, PassedLine, passed}
 use Rattle.reader.proofs.Runs.{accepted-lines, accepted-ended, accepted-inj, unless-none}
 
 -- ---- the step line at a place, from what the code has found
@@ -49,22 +52,30 @@ module _ (text rest : List ℕ) (at n : ℕ) (e : rest ≡ drop at text) (f : Fo
         ∙ ap (λ (x : List ℕ). nextAt (asStep (parse x)) (at + (n + 1))) (sym e′)
         ∙ ap (λ (x : Line). nextAt (asStep x) (at + (n + 1))) (sym (is .holds))
 
-    pub next-step : (s w : ℕ) → l ≡ code-lines.Step s w → resultOf (Step s w (at + (n + 1))) ≡ given (nextStep text at)
+    pub next-none : OneOf (0 ∷ 1 ∷ []) (tagOf line-type.the-type l) → resultOf End ≡ given (nextStep text at)
     unfolding means
-    next-step s w q = sym (ap given (next-line ∙ ap (λ (m : code.Line). nextAt (asStep (means first m)) (at + (n + 1))) q))
-
-    pub next-other : OneOf (0 ∷ 1 ∷ 2 ∷ 3 ∷ 4 ∷ 6 ∷ []) (tagOf line-type.the-type l) → resultOf End ≡ given (nextStep text at)
-    unfolding means
-    next-other q = sym (ap given (next-line ∙ ap (λ (x : Option StepLine). nextAt x (at + (n + 1))) (go l q)))
+    next-none q = sym (ap given (next-line ∙ ap (λ (x : Option StepLine). nextAt x (at + (n + 1))) (go l q)))
       where
-        go : (m : code.Line) → OneOf (0 ∷ 1 ∷ 2 ∷ 3 ∷ 4 ∷ 6 ∷ []) (tagOf line-type.the-type m) → asStep (means first m) ≡ none
+        go : (m : code.Line) → OneOf (0 ∷ 1 ∷ []) (tagOf line-type.the-type m) → asStep (means first m) ≡ none
         go code-lines.Bad k = refl
-        go (code-lines.Rule a b c) k = refl
-        go code-lines.WrongRule k = refl
-        go (code-lines.Node a b) k = refl
-        go code-lines.WrongNode k = refl
-        go (code-lines.Step a b) k = absurd (miss (0 ∷ 1 ∷ 2 ∷ 3 ∷ 4 ∷ 6 ∷ []) 5 tt k)
-        go code-lines.WrongStep k = refl
+        go (code-lines.Wrong o f) k = refl
+        go (code-lines.Right c) k = absurd (miss (0 ∷ 1 ∷ []) 2 tt k)
+
+    module _ (c : held-type.Content) (q : l ≡ code-lines.Right c) where
+      next-held : nextStep text at ≡ nextAt (stepIn (held first c)) (at + (n + 1))
+      unfolding means
+      next-held = next-line ∙ ap (λ (m : code.Line). nextAt (asStep (means first m)) (at + (n + 1))) q
+
+      pub next-step : (s w : ℕ) → c ≡ contents.Step s w → resultOf (Step s w (at + (n + 1))) ≡ given (nextStep text at)
+      next-step s w z = sym (ap given (next-held ∙ ap (λ (x : held-type.Content). nextAt (stepIn (held first x)) (at + (n + 1))) z))
+
+      pub next-other : OneOf (0 ∷ 1 ∷ []) (tagOf content-type.the-type c) → resultOf End ≡ given (nextStep text at)
+      next-other z = sym (ap given (next-held ∙ ap (λ (x : Option StepLine). nextAt x (at + (n + 1))) (go c z)))
+        where
+          go : (m : held-type.Content) → OneOf (0 ∷ 1 ∷ []) (tagOf content-type.the-type m) → stepIn (held first m) ≡ none
+          go (contents.Rule a b c) k = refl
+          go (contents.Node a b) k = refl
+          go (contents.Step a b) k = absurd (miss (0 ∷ 1 ∷ []) 2 tt k)
 
 -- ---- and the steps from there on
 abbrev pub handed : List ℕ → Option Next → List StepLine
@@ -137,18 +148,23 @@ snoc-nil : {A : Type 0} (l : List A) (a : A) → isNil (l ++ a ∷ []) ≡ false
 snoc-nil [] a = refl
 snoc-nil (b ∷ r) a = refl
 
--- the lines behind a step line are step lines
-step-on : (n : ℕ) (b : Book) (l : Line) (r : List StepLine) → Stepping b → Passed b l → Stepping (add n b l) × (add n b l .head ≡ b .head) × (add n b l .steps ++ r ≡ b .steps ++ before (asStep l) r)
-unfolding add stands labelled numbered
-step-on n b bad r s p = true-false (sym (p .line))
-step-on n b (rule l k) r s p = true-false (sym (both {a = whole b} {b = isNil (b .steps)} (p .here) .1) ∙ s .steps)
-step-on n b wrong-rule r s p = true-false (sym (p .labels))
-step-on n b (node op v) r s p = true-false (sym (p .here) ∙ ap not (s .whole))
-step-on n b wrong-node r s p = true-false (sym (p .numbers))
-step-on n b (step u w) r s p = (record { whole = s .whole; steps = snoc-nil (b .steps) (record { number = u; truths = w }) }, refl, append-assoc (b .steps) (record { number = u; truths = w } ∷ []) r)
-step-on n b wrong-step r s p = true-false (sym (p .numbers))
+pub begun : (n : ℕ) (b : Book) (u w : ℕ) → Passed b (step u w) → Stepping (add n b (step u w))
+unfolding add stands
+begun n b u w p = record { whole = p .here; steps = snoc-nil (b .steps) (record { number = u; truths = w }) }
 
-ends : (b c : Book) (k : ℕ) → readOn b k [] ≡ accepted c → b ≡ c
+-- the lines behind a step line are step lines
+pub record StepOn (n : ℕ) (b : Book) (l : Line) (r : List StepLine) : Type 0 where
+  pub stepping : Stepping (addLine n b l)
+  pub head : addLine n b l .head ≡ b .head
+  pub steps : addLine n b l .steps ++ r ≡ b .steps ++ before (asStep l) r
+
+step-on : (n : ℕ) (b : Book) (c : Content) (r : List StepLine) → Stepping b → Passed b c → StepOn n b (right c) r
+unfolding add stands
+step-on n b (rule l k) r s p = true-false (sym (both {a = whole b} {b = isNil (b .steps)} (p .here) .1) ∙ s .steps)
+step-on n b (node op v) r s p = true-false (sym (p .here) ∙ ap not (s .whole))
+step-on n b (step u w) r s p = record { stepping = begun n b u w p; head = refl; steps = append-assoc (b .steps) (record { number = u; truths = w } ∷ []) r }
+
+pub ends : (b c : Book) (k : ℕ) → readOn b k [] ≡ accepted c → b ≡ c
 unfolding readOn
 ends b c k e = go (whole b) e
   where
@@ -156,30 +172,44 @@ ends b c k e = go (whole b) e
     go true e = accepted-inj e
     go false e = accepted-refused e
 
-later : (b c : Book) (k : ℕ) (ls : List (List ℕ)) → Stepping b → readOn b k ls ≡ accepted c → (c .head ≡ b .head) × (c .steps ≡ b .steps ++ stepsOf ls)
+pub later : (b c : Book) (k : ℕ) (ls : List (List ℕ)) → Stepping b → readOn b k ls ≡ accepted c → (c .head ≡ b .head) × (c .steps ≡ b .steps ++ stepsOf ls)
 unfolding readOn stepsOf
 later b c k [] s e =
     let q : b ≡ c = ends b c k e in
     (ap (λ (x : Book). x .head) (sym q), ap (λ (x : Book). x .steps) (sym q) ∙ sym (mathlib.Core.List.append-nil (b .steps)))
 later b c k (l ∷ ls) s e =
     let (o, r) = unless-none (fault b (parse l)) k _ c e in
-    let (s′, hd, st) = step-on (length l + 1) b (parse l) (stepsOf ls) s (passed b (parse l) o) in
-    let (h, t) = later (add (length l + 1) b (parse l)) c (k + 1) ls s′ r in
-    (h ∙ hd, t ∙ st)
+    let p : PassedLine b (parse l) = passed b (parse l) o in
+    let q : StepOn (length l + 1) b (parse l) (stepsOf ls) =
+    subst (λ (x : Line). StepOn (length l + 1) b x (stepsOf ls)) (sym (p .is)) (step-on (length l + 1) b (p .content) (stepsOf ls) s (p .passed)) in
+    let (h, t) = later (addLine (length l + 1) b (parse l)) c (k + 1) ls (q .stepping) r in
+    (h ∙ q .head, t ∙ q .steps)
 
 -- a line before the steps: a step begins them, any other keeps none and goes on
-abbrev Begins : ℕ → Book → Line → Type 0
-Begins n b l = mathlib.Core.Logic._⊎_ ((Stepping (add n b l)) × (add n b l .head ≡ b .head) × ((r : List StepLine) → add n b l .steps ++ r ≡ before (asStep l) r)) ((add n b l .steps ≡ []) × (add n b l .head ≡ b .head + n))
+pub record Begun (n : ℕ) (b : Book) (l : Line) : Type 0 where
+  pub stepping : Stepping (addLine n b l)
+  pub head : addLine n b l .head ≡ b .head
+  pub steps : (r : List StepLine) → addLine n b l .steps ++ r ≡ before (asStep l) r
 
-begins : (n : ℕ) (b : Book) (l : Line) → b .steps ≡ [] → Passed b l → Begins n b l
-unfolding add stands labelled numbered
-begins n b bad s p = true-false (sym (p .line))
-begins n b (rule l k) s p = mathlib.Core.Logic.inr (s, refl)
-begins n b wrong-rule s p = true-false (sym (p .labels))
-begins n b (node op v) s p = mathlib.Core.Logic.inr (s, refl)
-begins n b wrong-node s p = true-false (sym (p .numbers))
-begins n b (step u w) s p = mathlib.Core.Logic.inl (record { whole = p .here; steps = snoc-nil (b .steps) (record { number = u; truths = w }) }, refl, λ r. ap (λ (x : List StepLine). (x ++ record { number = u; truths = w } ∷ []) ++ r) s)
-begins n b wrong-step s p = true-false (sym (p .numbers))
+pub record NoneYet (n : ℕ) (b : Book) (l : Line) : Type 0 where
+  pub steps : addLine n b l .steps ≡ []
+  pub head : addLine n b l .head ≡ b .head + n
+
+abbrev Begins : ℕ → Book → Line → Type 0
+Begins n b l = mathlib.Core.Logic._⊎_ (Begun n b l) (NoneYet n b l)
+
+begins : (n : ℕ) (b : Book) (c : Content) → b .steps ≡ [] → Passed b c → Begins n b (right c)
+unfolding add
+begins n b (rule l k) s p = mathlib.Core.Logic.inr (record { steps = s; head = refl })
+begins n b (node op v) s p = mathlib.Core.Logic.inr (record { steps = s; head = refl })
+begins n b (step u w) s p = mathlib.Core.Logic.inl (record {
+  stepping = begun n b u w p;
+  head = refl;
+  steps = λ r. ap (λ (x : List StepLine). (x ++ record { number = u; truths = w } ∷ []) ++ r) s;
+})
+
+begins-line : (n : ℕ) (b : Book) (l : Line) → b .steps ≡ [] → PassedLine b l → Begins n b l
+begins-line n b l s p = subst (Begins n b) (sym (p .is)) (begins n b (p .content) s (p .passed))
 
 -- from the head of the accepted book, counted from where b's own head ends, its steps stand
 pub record From (b c : Book) (t : List ℕ) : Type 0 where
@@ -194,6 +224,32 @@ from-none b c k s e =
     let z : c .head - b .head ≡ 0 = omega arith in
     record { later = omega arith; are = rw z (sym s ∙ ap (λ (x : Book). x .steps) q) }
 
+-- the first line of a text and what it leaves
+module _ (b c : Book) (k : ℕ) (t : List ℕ) (n : ℕ) (cut : lines t ≡ take n t ∷ lines (drop (n + 1) t)) (size : length (take n t) ≡ n) where
+  abbrev first : Line
+  first = parse (take n t)
+
+  abbrev next : Book
+  next = addLine (length (take n t) + 1) b first
+
+  abbrev others : List (List ℕ)
+  others = lines (drop (n + 1) t)
+
+  from-line : readOn next (k + 1) others ≡ accepted c → (next .steps ≡ [] → From next c (drop (n + 1) t)) → Begins (length (take n t) + 1) b first → From b c t
+  unfolding stepsOf
+  from-line a ih (mathlib.Core.Logic.inl g) =
+      let (h, ss) = later next c (k + 1) others (g .stepping) a in
+      let z : c .head - b .head ≡ 0 = omega (arith, h, g .head) in
+      record { later = omega (arith, h, g .head); are = rw z (ap stepsOf cut ∙ unfolded ∙ sym (ss ∙ g .steps (stepsOf others))) }
+    where
+      unfolded : stepsOf (take n t ∷ others) ≡ before (asStep first) (stepsOf others)
+      unfolded = refl
+  from-line a ih (mathlib.Core.Logic.inr g) =
+      let f : From next c (drop (n + 1) t) = ih (g .steps) in
+      let z : n + 1 + (c .head - next .head) ≡ c .head - b .head = omega (arith, f .later, size, g .head) in
+      let y : drop (c .head - next .head) (drop (n + 1) t) ≡ drop (c .head - b .head) t = drop-drop (c .head - next .head) (n + 1) t ∙ ap (λ (i : ℕ). drop i t) z in
+      record { later = omega (arith, f .later, g .head); are = ap (λ (x : List ℕ). stepsOf (lines x)) (sym y) ∙ f .are }
+
 from : (fuel : ℕ) (b c : Book) (k : ℕ) (t : List ℕ) → length t ≤ fuel → ended t ≡ true → b .steps ≡ [] → readOn b k (lines t) ≡ accepted c → From b c t
 unfolding readOn stepsOf parts
 from zero b c k [] h d s e = from-none b c k s e
@@ -207,20 +263,10 @@ from (suc fuel) b c k (x ∷ r) h d s e =
     let size : length (take n t) ≡ n = length-take-le n t (first-inside 10 t) in
     let whole-line : readOn b k (take n t ∷ lines (drop (n + 1) t)) ≡ accepted c = subst (λ (y : List (List ℕ)). readOn b k y ≡ accepted c) cut e in
     let (o, a) = unless-none (fault b (parse (take n t))) k _ c whole-line in
-    go fuel b c k t n s cut size (passed b (parse (take n t)) o) a
-    (λ (y : Book) (q : y .steps ≡ []). from fuel y c (k + 1) (drop (n + 1) t) (omega (arith, length-drop (n + 1) t)) (ended-drop (n + 1) t d) q)
-    (begins (length (take n t) + 1) b (parse (take n t)) s (passed b (parse (take n t)) o))
-  where
-    go : (fuel : ℕ) (b c : Book) (k : ℕ) (t : List ℕ) (n : ℕ) → b .steps ≡ [] → lines t ≡ take n t ∷ lines (drop (n + 1) t) → length (take n t) ≡ n → Passed b (parse (take n t)) → readOn (add (length (take n t) + 1) b (parse (take n t))) (k + 1) (lines (drop (n + 1) t)) ≡ accepted c → ((d : Book) → d .steps ≡ [] → readOn d (k + 1) (lines (drop (n + 1) t)) ≡ accepted c → From d c (drop (n + 1) t)) → Begins (length (take n t) + 1) b (parse (take n t)) → From b c t
-    go fuel b c k t n s cut size p a ih (mathlib.Core.Logic.inl (stp, hd, st)) =
-        let (h, ss) = later (add (length (take n t) + 1) b (parse (take n t))) c (k + 1) (lines (drop (n + 1) t)) stp a in
-        let z : c .head - b .head ≡ 0 = omega arith in
-        record { later = omega arith; are = rw z (ap stepsOf cut ∙ sym (ss ∙ st (stepsOf (lines (drop (n + 1) t))))) }
-    go fuel b c k t n s cut size p a ih (mathlib.Core.Logic.inr (none-yet, hd)) =
-        let d : Book = add (length (take n t) + 1) b (parse (take n t)) in
-        let f : From d c (drop (n + 1) t) = ih d none-yet a in
-        let z : n + 1 + (c .head - d .head) ≡ c .head - b .head = omega (arith, f .later, size, hd) in
-        record { later = omega (arith, f .later, hd); are = ap (λ (y : List ℕ). stepsOf (lines y)) (sym (drop-drop (c .head - d .head) (n + 1) t ∙ ap (λ (i : ℕ). drop i t) z)) ∙ f .are }
+    let b′ : Book = addLine (length (take n t) + 1) b (parse (take n t)) in
+    from-line b c k t n cut size a
+    (λ (q : b′ .steps ≡ []). from fuel b′ c (k + 1) (drop (n + 1) t) (omega (arith, length-drop (n + 1) t)) (ended-drop (n + 1) t d) q a)
+    (begins-line (length (take n t) + 1) b (parse (take n t)) s (passed b (parse (take n t)) o))
 
 -- from where its answer says that they begin, the text's step lines are the book's steps in order
 pub steps-of-book : (text : List ℕ) (b : Book) → read text ≡ accepted b → stepsFrom text (b .head) ≡ b .steps

@@ -51,7 +51,8 @@ placed-past a b k x =
 
 cell-first : (x l : List ℕ) → length x ≤ 32 → 32 ≤ length l → placed l 0 x ≡ (x ++ drop (length x) (take 32 l)) ++ drop 32 l
 cell-first x l h k =
-    let z : drop (length x) l ≡ drop (length x) (take 32 l) ++ drop 32 l = ap (drop (length x)) (sym (take-append-drop 32 l)) ∙ drop-append-le (length x) (take 32 l) (drop 32 l) (omega (arith, length-take-le 32 l k)) in
+    let z : drop (length x) l ≡ drop (length x) (take 32 l) ++ drop 32 l =
+    ap (drop (length x)) (sym (take-append-drop 32 l)) ∙ drop-append-le (length x) (take 32 l) (drop 32 l) (omega (arith, length-take-le 32 l k)) in
     let zero-plus : 0 + length x ≡ length x = omega arith in
     ap (λ (n : ℕ). x ++ drop n l) zero-plus ∙ ap (x ++_) z ∙ sym (append-assoc x (drop (length x) (take 32 l)) (drop 32 l))
 

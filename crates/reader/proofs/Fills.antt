@@ -11,12 +11,16 @@ use types.Run.{OneOf, miss}
 use denote.Enum.Declared.{tagOf}
 use lib.ListN.{length, getD, take, drop, set, length-set}
 use lib.Seq.{paste, paste-zero, paste-suc, take-length, length-paste}
-use Rattle.line.specs.Line.{Line, bad, rule, wrong-rule, node, wrong-node, step, wrong-step, parse}
-use Rattle.line.specs.Means.{means, inLine, LineIs}
+use Rattle.line.specs.Line.{Content, rule, node, step, Line, bad, wrong, right, parse}
+use Rattle.line.specs.Means.{held, means, labelIn, inLine, LineIs}
+use Rattle.line.specs.declared.line.Sort.{Sort}
+use Rattle.line.specs.declared.line.Flaw.{Flaw}
+use Rattle.line.specs.declared.line.Content as held-type
+use Rattle.line.specs.declared.line.Content.the-variants as contents
 use Rattle.line.specs.declared.line.Line as code
 use Rattle.line.specs.declared.line.Line.the-variants as lines
 use Rattle.line.proofs.line.Line as line-type
-use Rattle.reader.specs.Tables.{BookTables}
+use Rattle.reader.specs.Tables.{BookTables, columns}
 use Rattle.reader.specs.Filled.{placed, RuleRoom, RulePut, NodeRoom, NodePut, LineRoom, LinePut, RoomFor, LeftBy, Kept, RuleDone, NodeDone}
 use Rattle.reader.specs.declared.fill.Tally.{Tally}
 
@@ -50,51 +54,69 @@ copy-long dst₀ at src dst j c = c .long
 
 -- ---- a line
 module _ (line : List ℕ) (l : code.Line) (is : LineIs line l) where
-  module _ (start len kind : ℕ) (e : l ≡ lines.Rule start len kind) where
-    rule-in : start + len ≤ length line
-    rule-in = subst (inLine (length line)) e (is .inside)
-
-    pub rule-start : start ≤ length line
-    rule-start = omega (arith, rule-in)
-
-    pub rule-len : (rest : List ℕ) → rest ≡ drop start line → len ≤ length rest
-    rule-len rest p = omega (arith, ap length p, lib.ListN.length-drop start line, rule-in)
-
-    rule-parse : (rest label : List ℕ) → rest ≡ drop start line → label ≡ take len rest → parse line ≡ rule label kind
-    unfolding means
-    rule-parse rest label p q =
-        let z : means line l ≡ rule (take len (drop start line)) kind = ap (means line) e in
-        sym (is .holds) ∙ z ∙ ap (λ (x : List ℕ). rule x kind) (ap (take len) (sym p) ∙ sym q)
-
-  node-parse : (op num : ℕ) → l ≡ lines.Node op num → parse line ≡ node op num
+  -- a line with no content leaves everything
+  pub line-none : (t : BookTables) (f : Tally) → OneOf (0 ∷ 1 ∷ []) (tagOf line-type.the-type l) → LinePut line t f t f
   unfolding means
-  node-parse op num e = let z : means line l ≡ node op num = ap (means line) e in sym (is .holds) ∙ z
+  line-none t f h = record { left = λ c e. absurd (other l h c (is .holds ∙ e)) }
+    where
+      bad-right : {c : Content} → bad ≡ right c → ⊥
+      bad-right z = let y : _≡_ {A = ℕ} 0 1 = cc in omega arith
 
-module _ (line labels lens kinds firsts counts ops nums : List ℕ) (f : Tally) (l : code.Line) (is : LineIs line l) where
-  module _ (start len kind : ℕ) (rest label : List ℕ) (e : l ≡ lines.Rule start len kind) (p : rest ≡ drop start line) (q : label ≡ take len rest) where
-    pub line-rule-room : LineRoom line (record { labels = labels; lens = lens; kinds = kinds; firsts = firsts; counts = counts; ops = ops; nums = nums }) f → RuleRoom labels lens kinds firsts counts label f
-    line-rule-room m = subst (λ (x : Line). RoomFor x (record { labels = labels; lens = lens; kinds = kinds; firsts = firsts; counts = counts; ops = ops; nums = nums }) f) (rule-parse line l is start len kind e rest label p q) (m .room)
+      wrong-right : {o : Sort} {f : Flaw} {c : Content} → wrong o f ≡ right c → ⊥
+      wrong-right z = let y : _≡_ {A = ℕ} 0 1 = cc in omega arith
 
-    pub line-rule-put : (labels′ lens′ kinds′ firsts′ counts′ : List ℕ) (r : Tally) → RulePut labels lens kinds firsts counts label kind f labels′ lens′ kinds′ firsts′ counts′ r → LinePut line (record { labels = labels; lens = lens; kinds = kinds; firsts = firsts; counts = counts; ops = ops; nums = nums }) f (record { labels = labels′; lens = lens′; kinds = kinds′; firsts = firsts′; counts = counts′; ops = ops; nums = nums }) r
-    line-rule-put labels′ lens′ kinds′ firsts′ counts′ r u = record { left = subst (λ (x : Line). LeftBy x (record { labels = labels; lens = lens; kinds = kinds; firsts = firsts; counts = counts; ops = ops; nums = nums }) f (record { labels = labels′; lens = lens′; kinds = kinds′; firsts = firsts′; counts = counts′; ops = ops; nums = nums }) r) (sym (rule-parse line l is start len kind e rest label p q)) (record { put = u; ops-kept = refl; nums-kept = refl }) }
+      other : (m : code.Line) → OneOf (0 ∷ 1 ∷ []) (tagOf line-type.the-type m) → (c : Content) → means line m ≡ right c → ⊥
+      other lines.Bad k c e = bad-right e
+      other (lines.Wrong o f) k c e = wrong-right e
+      other (lines.Right x) k c e = absurd (miss (0 ∷ 1 ∷ []) 2 tt k)
 
-  module _ (op num : ℕ) (e : l ≡ lines.Node op num) where
-    pub line-node-room : LineRoom line (record { labels = labels; lens = lens; kinds = kinds; firsts = firsts; counts = counts; ops = ops; nums = nums }) f → NodeRoom counts ops nums f
-    line-node-room m = subst (λ (x : Line). RoomFor x (record { labels = labels; lens = lens; kinds = kinds; firsts = firsts; counts = counts; ops = ops; nums = nums }) f) (node-parse line l is op num e) (m .room)
+  module _ (x : held-type.Content) (e : l ≡ lines.Right x) where
+    line-held : parse line ≡ right (held line x)
+    unfolding means
+    line-held = sym (is .holds) ∙ ap (means line) e
 
-    pub line-node-put : (counts′ ops′ nums′ : List ℕ) (r : Tally) → NodePut counts ops nums op num f counts′ ops′ nums′ r → LinePut line (record { labels = labels; lens = lens; kinds = kinds; firsts = firsts; counts = counts; ops = ops; nums = nums }) f (record { labels = labels; lens = lens; kinds = kinds; firsts = firsts; counts = counts′; ops = ops′; nums = nums′ }) r
-    line-node-put counts′ ops′ nums′ r u = record { left = subst (λ (x : Line). LeftBy x (record { labels = labels; lens = lens; kinds = kinds; firsts = firsts; counts = counts; ops = ops; nums = nums }) f (record { labels = labels; lens = lens; kinds = kinds; firsts = firsts; counts = counts′; ops = ops′; nums = nums′ }) r) (sym (node-parse line l is op num e)) (record { put = u; labels-kept = refl; lens-kept = refl; kinds-kept = refl; firsts-kept = refl }) }
+    only : (t : BookTables) (f : Tally) (t′ : BookTables) (f′ : Tally) → LeftBy (held line x) t f t′ f′ → LinePut line t f t′ f′
+    only t f t′ f′ p = record { left = λ c q. subst (λ (y : Content). LeftBy y t f t′ f′) (right-is (sym line-held ∙ q)) p }
+      where
+        right-is : {c d : Content} → right c ≡ right d → c ≡ d
+        right-is z = cc
 
--- any other line leaves everything
-kept-by : (line : List ℕ) (t : BookTables) (f : Tally) (l : code.Line) → OneOf (0 ∷ 2 ∷ 4 ∷ 5 ∷ 6 ∷ []) (tagOf line-type.the-type l) → LeftBy (means line l) t f t f
-unfolding means
-kept-by line t f lines.Bad h = record { tables = refl; fill = refl }
-kept-by line t f (lines.Rule a b c) h = absurd (miss (0 ∷ 2 ∷ 4 ∷ 5 ∷ 6 ∷ []) 1 tt h)
-kept-by line t f lines.WrongRule h = record { tables = refl; fill = refl }
-kept-by line t f (lines.Node a b) h = absurd (miss (0 ∷ 2 ∷ 4 ∷ 5 ∷ 6 ∷ []) 3 tt h)
-kept-by line t f lines.WrongNode h = record { tables = refl; fill = refl }
-kept-by line t f (lines.Step a b) h = record { tables = refl; fill = refl }
-kept-by line t f lines.WrongStep h = record { tables = refl; fill = refl }
+    pub line-kept : (t : BookTables) (f : Tally) (s w : ℕ) → x ≡ contents.Step s w → LinePut line t f t f
+    line-kept t f s w q = only t f t f (subst (λ (y : held-type.Content). LeftBy (held line y) t f t f) (sym q) (record { tables = refl; fill = refl }))
 
-pub line-kept : (line : List ℕ) (t : BookTables) (f : Tally) (l : code.Line) → LineIs line l → OneOf (0 ∷ 2 ∷ 4 ∷ 5 ∷ 6 ∷ []) (tagOf line-type.the-type l) → LinePut line t f t f
-line-kept line t f l is h = record { left = subst (λ (x : Line). LeftBy x t f t f) (is .holds) (kept-by line t f l h) }
+    module _ (start len kind : ℕ) (k : x ≡ contents.Rule start len kind) where
+      rule-in : start + len ≤ length line
+      rule-in = subst (labelIn (length line)) k (subst (inLine (length line)) e (is .inside))
+
+      pub rule-start : start ≤ length line
+      rule-start = omega (arith, rule-in)
+
+      pub rule-len : (rest : List ℕ) → rest ≡ drop start line → len ≤ length rest
+      rule-len rest p = omega (arith, ap length p, lib.ListN.length-drop start line, rule-in)
+
+      module _ (labels lens kinds firsts counts ops nums : List ℕ) (f : Tally) (rest label : List ℕ) (p : rest ≡ drop start line) (q : label ≡ take len rest) where
+        rule-held : held line x ≡ rule label kind
+        rule-held = ap (held line) k ∙ ap (λ (y : List ℕ). rule y kind) (ap (take len) (sym p) ∙ sym q)
+
+        pub line-rule-room : LineRoom line (columns labels lens kinds firsts counts ops nums) f → RuleRoom labels lens kinds firsts counts label f
+        line-rule-room m = m .room (rule label kind) (line-held ∙ ap right rule-held)
+
+        pub line-rule-put : (labels′ lens′ kinds′ firsts′ counts′ : List ℕ) (r : Tally)
+            → RulePut labels lens kinds firsts counts label kind f labels′ lens′ kinds′ firsts′ counts′ r
+            → LinePut line (columns labels lens kinds firsts counts ops nums) f (columns labels′ lens′ kinds′ firsts′ counts′ ops nums) r
+        line-rule-put labels′ lens′ kinds′ firsts′ counts′ r u =
+            only (columns labels lens kinds firsts counts ops nums) f (columns labels′ lens′ kinds′ firsts′ counts′ ops nums) r
+            (subst (λ (y : Content). LeftBy y (columns labels lens kinds firsts counts ops nums) f (columns labels′ lens′ kinds′ firsts′ counts′ ops nums) r) (sym rule-held)
+            (record { put = u; ops-kept = refl; nums-kept = refl }))
+
+    module _ (op num : ℕ) (k : x ≡ contents.Node op num) (labels lens kinds firsts counts ops nums : List ℕ) (f : Tally) where
+      pub line-node-room : LineRoom line (columns labels lens kinds firsts counts ops nums) f → NodeRoom counts ops nums f
+      line-node-room m = m .room (node op num) (line-held ∙ ap (λ (y : held-type.Content). right (held line y)) k)
+
+      pub line-node-put : (counts′ ops′ nums′ : List ℕ) (r : Tally)
+          → NodePut counts ops nums op num f counts′ ops′ nums′ r
+          → LinePut line (columns labels lens kinds firsts counts ops nums) f (columns labels lens kinds firsts counts′ ops′ nums′) r
+      line-node-put counts′ ops′ nums′ r u =
+          only (columns labels lens kinds firsts counts ops nums) f (columns labels lens kinds firsts counts′ ops′ nums′) r
+          (subst (λ (y : held-type.Content). LeftBy (held line y) (columns labels lens kinds firsts counts ops nums) f (columns labels lens kinds firsts counts′ ops′ nums′) r) (sym k)
+          (record { put = u; labels-kept = refl; lens-kept = refl; kinds-kept = refl; firsts-kept = refl }))

@@ -6,18 +6,12 @@ use mathlib.Core.Option.{Option, none, some}
 use Prim.Native.Nat.{ℕ, zero, suc, _+_, _-_, _*_, _^_, _≤_, _<_}
 use native.Mathlib.Omega.{arith}
 use borrow.Author.Tests.{leb-true, ltb-true}
-use lib.Dec.{eqb, leb, ltb}
-use lib.ListN.{length, getD, length-append}
+use lib.Dec.{leb, ltb}
+use lib.ListN.{length, length-append}
 use Rattle.terms.specs.Choice.{pick}
-use Rattle.number.specs.Number.{decimalOf, hexOf}
-use Rattle.number.specs.declared.Number.{Number}
-use Rattle.number.specs.declared.Number.the-variants.{Value, Wrong}
-use Rattle.line.specs.Text.{fields}
-use Rattle.line.specs.Word.{wordOf, fieldCount}
-use Rattle.line.specs.Line.{Line, bad, rule, wrong-rule, node, wrong-node, step, wrong-step, isLabel, printable, kindOf, ruleKind, ruleLine, atomLine, boundLine, stepLine, content, ofFields, parse}
-use Rattle.line.specs.declared.word.Word.{Word}
-use Rattle.line.specs.declared.word.Word.the-variants as word
-use Rattle.book.specs.Book.{Book, empty, isNil, whole, headOf, lastOf, bump, Fault, word, place, label, number, limit, sortOf, isLine, passes, stands, within, labelled, numbered, firstFault, fault, add}
+use Rattle.line.specs.Line.{Content, rule, node, step, sortOf, Line, bad, wrong, right, isLabel, printable, parse}
+use Rattle.line.proofs.Sane.{Sane, SaneLine, parse-sane}
+use Rattle.book.specs.Book.{Book, empty, isNil, whole, headOf, lastOf, bump, Fault, place, field, limit, orElse, stands, within, firstFault, fault, add, addLine}
 use Rattle.book.proofs.States.{bump-length}
 
 pub both : {a b : Bool} → (a && b) ≡ true → (a ≡ true) × (b ≡ true)
@@ -30,29 +24,35 @@ both {a} {b} h = go a b h
     go false false h = (h, h)
 
 -- ---- a line that no test fails
-pub record Passed (b : Book) (l : Line) : Type 0 where
-  pub line : isLine (sortOf l) ≡ true
-  pub here : stands b (sortOf l) ≡ true
-  pub labels : labelled l ≡ true
-  pub numbers : numbered l ≡ true
-  pub limits : within b (sortOf l) ≡ true
-
 some-none : {A : Type 0} {f : Fault} → some f ≡ none → A
 some-none e = let z : _≡_ {A = ℕ} 0 1 = cc in absurd (omega arith)
 
-pick-none : (t : Bool) (o : Option Fault) (f : Fault) → pick t o (some f) ≡ none → (t ≡ true) × (o ≡ none)
-pick-none true o f e = (refl, e)
-pick-none false o f e = some-none e
+pub record Passed (b : Book) (c : Content) : Type 0 where
+  pub here : stands b (sortOf c) ≡ true
+  pub limits : within b (sortOf c) ≡ true
 
-pub passed : (b : Book) (l : Line) → fault b l ≡ none → Passed b l
-unfolding fault firstFault passes
-passed b l e =
-    let (p1, e1) = pick-none _ _ _ e in
-    let (p2, e2) = pick-none _ _ _ e1 in
-    let (p3, e3) = pick-none _ _ _ e2 in
-    let (p4, e4) = pick-none _ _ _ e3 in
-    let (p5, e5) = pick-none _ _ _ e4 in
-    record { line = p1; here = p2; labels = p3; numbers = p4; limits = p5 }
+-- its content, which passes the tests by sort
+pub record PassedLine (b : Book) (l : Line) : Type 0 where
+  pub content : Content
+  pub is : l ≡ right content
+  pub passed : Passed b content
+
+pub passed : (b : Book) (l : Line) → fault b l ≡ none → PassedLine b l
+unfolding fault firstFault
+passed b bad e = some-none e
+passed b (wrong o f) e = go (stands b o) e
+  where
+    go : (t : Bool) → orElse (pick t none (some place)) (some (field f)) ≡ none → PassedLine b (wrong o f)
+    go true e = some-none e
+    go false e = some-none e
+passed b (right c) e = go (stands b (sortOf c)) refl (within b (sortOf c)) refl e
+  where
+    go : (t : Bool) → stands b (sortOf c) ≡ t → (u : Bool) → within b (sortOf c) ≡ u
+        → orElse (pick t none (some place)) (orElse (pick u none (some limit)) none) ≡ none
+        → PassedLine b (right c)
+    go true p true q e = record { content = c; is = refl; passed = record { here = p; limits = q } }
+    go true p false q e = some-none e
+    go false p u q e = some-none e
 
 pub rules-left : (b : Book) (l : List ℕ) (k : ℕ) → Passed b (rule l k) → length (b .labels) < 64
 unfolding within
@@ -73,64 +73,14 @@ node-inside b op v p = go (isNil (b .due)) (p .here)
     go true e = sym e
     go false e = refl
 
--- ---- a rule's label is one
-abbrev pub LabelOf : Line → Type 0
-LabelOf bad = Unit
-LabelOf (rule l k) = isLabel l ≡ true
-LabelOf wrong-rule = Unit
-LabelOf (node op v) = Unit
-LabelOf wrong-node = Unit
-LabelOf (step s w) = Unit
-LabelOf wrong-step = Unit
-
-pick-label : (t : Bool) (a b : Line) → LabelOf a → LabelOf b → LabelOf (pick t a b)
-pick-label true a b x y = x
-pick-label false a b x y = y
-
-rule-label : (f g : List ℕ) → LabelOf (ruleLine f g)
-unfolding ruleLine ruleKind
-rule-label f g = go (isLabel f) refl
-  where
-    kinds : (t : Bool) (k : ℕ) → isLabel f ≡ true → LabelOf (pick t wrong-rule (rule f k))
-    kinds true k e = tt
-    kinds false k e = e
-
-    go : (t : Bool) → isLabel f ≡ t → LabelOf (pick (eqb (pick t (kindOf g) 2) 2) wrong-rule (rule f (pick t (kindOf g) 2)))
-    go true e = kinds (eqb (kindOf g) 2) (kindOf g) e
-    go false e = tt
-
-content-label : (w : Word) (f g : List ℕ) → LabelOf (content w f g)
-unfolding content atomLine boundLine stepLine
-content-label (word.Atom op) f g = go (decimalOf f)
-  where
-    go : (n : Number) → LabelOf (atomLine op n)
-    go Wrong = tt
-    go (Value v) = pick-label (ltb v 64) (node op v) wrong-node tt tt
-content-label (word.Plain op) f g = tt
-content-label (word.Bounded op) f g = go (decimalOf f)
-  where
-    go : (n : Number) → LabelOf (boundLine op n)
-    go Wrong = tt
-    go (Value v) = tt
-content-label word.Rule f g = rule-label f g
-content-label word.Step f g = go (decimalOf f) (hexOf g)
-  where
-    go : (n m : Number) → LabelOf (stepLine n m)
-    go Wrong m = tt
-    go (Value s) Wrong = tt
-    go (Value s) (Value w) = pick-label (ltb s (2 ^ 63)) (step s w) wrong-step tt tt
-content-label word.Unknown f g = tt
-
-pub parse-label : (l : List ℕ) → LabelOf (parse l)
-unfolding parse ofFields
-parse-label l =
-    pick-label (eqb (length (fields l)) (fieldCount (wordOf (getD (fields l) 0 []))))
-    (content (wordOf (getD (fields l) 0 [])) (getD (fields l) 1 []) (getD (fields l) 2 [])) bad
-    (content-label (wordOf (getD (fields l) 0 [])) (getD (fields l) 1 []) (getD (fields l) 2 [])) tt
+-- ---- a rule's label
+pub sane : (l : List ℕ) (c : Content) → parse l ≡ right c → Sane c
+sane l c e = subst SaneLine e (parse-sane l)
 
 pub label-short : (l : List ℕ) → isLabel l ≡ true → length l ≤ 32
 unfolding isLabel
-label-short l e = leb-true (length l) 32 (both {a = leb (length l) 32} {b = printable l} (both {a = leb 1 (length l)} {b = leb (length l) 32 && printable l} e .1) .0)
+label-short l e =
+    leb-true (length l) 32 (both {a = leb (length l) 32} {b = printable l} (both {a = leb 1 (length l)} {b = leb (length l) 32 && printable l} e .1) .0)
 
 -- ---- the columns
 abbrev pub Short : List (List ℕ) → Type 0
@@ -155,11 +105,19 @@ true-false : {A : Type 0} → true ≡ false → A
 true-false e = let z : _≡_ {A = ℕ} 0 1 = cc in absurd (omega arith)
 
 pub sound-empty : Sound empty
-sound-empty = record { kinds-long = refl; firsts-long = refl; counts-long = refl; nums-long = refl; few = omega arith; less = omega arith; begun = λ e. true-false e; short = tt }
+sound-empty = record {
+  kinds-long = refl;
+  firsts-long = refl;
+  counts-long = refl;
+  nums-long = refl;
+  few = omega arith;
+  less = omega arith;
+  begun = λ e. true-false e;
+  short = tt;
+}
 
-sound-by : (n : ℕ) (b : Book) (l : Line) → Sound b → LabelOf l → Passed b l → Sound (add n b l)
+sound-by : (n : ℕ) (b : Book) (c : Content) → Sound b → Sane c → Passed b c → Sound (add n b c)
 unfolding add
-sound-by n b bad s h p = s
 sound-by n b (rule l k) s h p = record {
   kinds-long = length-append (b .kinds) (k ∷ []) ∙ omega (arith, length-append (b .labels) (l ∷ []), s .kinds-long);
   firsts-long = length-append (b .firsts) (length (b .ops) ∷ []) ∙ omega (arith, length-append (b .labels) (l ∷ []), s .firsts-long);
@@ -168,9 +126,8 @@ sound-by n b (rule l k) s h p = record {
   few = omega (arith, length-append (b .labels) (l ∷ []), rules-left b l k p);
   less = s .less;
   begun = λ _. omega (arith, length-append (b .labels) (l ∷ []));
-  short = short-snoc (b .labels) l (s .short) (label-short l h);
+  short = short-snoc (b .labels) l (s .short) (label-short l (h .label));
 }
-sound-by n b wrong-rule s h p = s
 sound-by n b (node op v) s h p = record {
   kinds-long = s .kinds-long;
   firsts-long = s .firsts-long;
@@ -181,9 +138,18 @@ sound-by n b (node op v) s h p = record {
   begun = λ _. s .begun (node-inside b op v p);
   short = s .short;
 }
-sound-by n b wrong-node s h p = s
-sound-by n b (step u w) s h p = record { kinds-long = s .kinds-long; firsts-long = s .firsts-long; counts-long = s .counts-long; nums-long = s .nums-long; few = s .few; less = s .less; begun = s .begun; short = s .short }
-sound-by n b wrong-step s h p = s
+sound-by n b (step u w) s h p = record {
+  kinds-long = s .kinds-long;
+  firsts-long = s .firsts-long;
+  counts-long = s .counts-long;
+  nums-long = s .nums-long;
+  few = s .few;
+  less = s .less;
+  begun = s .begun;
+  short = s .short;
+}
 
-pub sound-add : (n : ℕ) (b : Book) (l : List ℕ) → Sound b → fault b (parse l) ≡ none → Sound (add n b (parse l))
-sound-add n b l s e = sound-by n b (parse l) s (parse-label l) (passed b (parse l) e)
+pub sound-add : (n : ℕ) (b : Book) (l : List ℕ) → Sound b → fault b (parse l) ≡ none → Sound (addLine n b (parse l))
+sound-add n b l s e =
+    let p : PassedLine b (parse l) = passed b (parse l) e in
+    subst (λ (x : Line). Sound (addLine n b x)) (sym (p .is)) (sound-by n b (p .content) s (sane l (p .content) (p .is)) (p .passed))

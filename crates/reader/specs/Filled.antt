@@ -1,11 +1,11 @@
 -- What the functions of the filling pass ask and leave.
 use mathlib.Core.Path.{_≡_}
-use mathlib.Core.Bool.{Bool, true, false}
+use mathlib.Core.Bool.{true}
 use mathlib.Core.List.{List, [], _∷_, _++_}
 use Prim.Native.Nat.{ℕ, suc, _+_, _-_, _*_, _≤_, _<_}
 use lib.ListN.{length, take, drop, set}
 use Rattle.terms.specs.Limits.{bookNodes, bookRules, ruleNodes}
-use Rattle.line.specs.Line.{Line, bad, rule, wrong-rule, node, wrong-node, step, wrong-step, parse}
+use Rattle.line.specs.Line.{Content, rule, node, step, right, parse}
 use Rattle.book.specs.Book.{Book, accepted, read}
 use Rattle.reader.specs.Tables.{BookTables, written, roomy}
 use Rattle.reader.specs.declared.fill.Tally.{Tally}
@@ -50,15 +50,11 @@ pub record NodePut (counts ops nums : List ℕ) (op num : ℕ) (f : Tally) (coun
   pub nodes-is : r .nodes ≡ f .nodes + 1
   pub own-is : r .own ≡ f .own + 1
 
--- a line's room and what it leaves, by what it holds
-abbrev pub RoomFor : Line → BookTables → Tally → Type 0
-RoomFor bad t f = Unit
+-- a line's room and what it leaves, by what it holds; a step stays in the text
+abbrev pub RoomFor : Content → BookTables → Tally → Type 0
 RoomFor (rule l k) t f = RuleRoom (t .labels) (t .lens) (t .kinds) (t .firsts) (t .counts) l f
-RoomFor wrong-rule t f = Unit
 RoomFor (node op v) t f = NodeRoom (t .counts) (t .ops) (t .nums) f
-RoomFor wrong-node t f = Unit
 RoomFor (step s w) t f = Unit
-RoomFor wrong-step t f = Unit
 
 -- nothing has changed
 pub record Kept (t : BookTables) (f : Tally) (t′ : BookTables) (f′ : Tally) : Type 0 where
@@ -77,38 +73,22 @@ pub record NodeDone (op v : ℕ) (t : BookTables) (f : Tally) (t′ : BookTables
   pub kinds-kept : t′ .kinds ≡ t .kinds
   pub firsts-kept : t′ .firsts ≡ t .firsts
 
-abbrev pub LeftBy : Line → BookTables → Tally → BookTables → Tally → Type 0
-LeftBy bad t f t′ f′ = Kept t f t′ f′
+abbrev pub LeftBy : Content → BookTables → Tally → BookTables → Tally → Type 0
 LeftBy (rule l k) t f t′ f′ = RuleDone l k t f t′ f′
-LeftBy wrong-rule t f t′ f′ = Kept t f t′ f′
 LeftBy (node op v) t f t′ f′ = NodeDone op v t f t′ f′
-LeftBy wrong-node t f t′ f′ = Kept t f t′ f′
 LeftBy (step s w) t f t′ f′ = Kept t f t′ f′
-LeftBy wrong-step t f t′ f′ = Kept t f t′ f′
 
 pub record LineRoom (line : List ℕ) (t : BookTables) (f : Tally) : Type 0 where
-  pub room : RoomFor (parse line) t f
+  pub room : (c : Content) → parse line ≡ right c → RoomFor c t f
 
 pub record LinePut (line : List ℕ) (t : BookTables) (f : Tally) (t′ : BookTables) (f′ : Tally) : Type 0 where
-  pub left : LeftBy (parse line) t f t′ f′
+  pub left : (c : Content) → parse line ≡ right c → LeftBy c t f t′ f′
 
--- what a line that adds nothing holds
-abbrev pub Silent : Line → Type 0
-Silent bad = Unit
-Silent (rule l k) = ⊥
-Silent wrong-rule = Unit
-Silent (node op v) = ⊥
-Silent wrong-node = Unit
-Silent (step s w) = Unit
-Silent wrong-step = Unit
-
-pub record ToldLine (line : List ℕ) (r : Bool) : Type 0 where
-  pub is : r ≡ true → Silent (parse line)
-
--- the book is accepted and there is room for it; it is then written
-pub record Fillable (text : List ℕ) (t : BookTables) : Type 0 where
+-- the book is accepted, its step lines begin at a place, and there is room for it; it is then written
+pub record Fillable (text : List ℕ) (head : ℕ) (t : BookTables) : Type 0 where
   pub book : Book
   pub is : read text ≡ accepted book
+  pub begin : head ≡ book .head
   pub room : roomy t ≡ true
 
 pub record FilledTables (text : List ℕ) (t t′ : BookTables) : Type 0 where

@@ -10,20 +10,21 @@ use lib.ListN.{length, take, drop}
 use Rattle.terms.specs.Choice.{pick}
 use Rattle.result.specs.Result.{Result, given}
 use Rattle.line.specs.Text.{lines, firstAt}
-use Rattle.line.specs.Line.{Line, bad, rule, wrong-rule, node, wrong-node, step, wrong-step, parse}
+use Rattle.line.specs.Line.{Content, rule, node, step, Line, bad, wrong, right, parse}
 use Rattle.book.specs.Book.{StepLine}
 use Rattle.reader.specs.declared.steps.StepRead.{StepRead}
 use Rattle.reader.specs.declared.steps.StepRead.the-variants.{Step, End}
 
 -- the step that a line is, if it is one
+abbrev pub stepIn : Content → Option StepLine
+stepIn (rule l k) = none
+stepIn (node op v) = none
+stepIn (step s w) = some (record { number = s; truths = w })
+
 abbrev pub asStep : Line → Option StepLine
 asStep bad = none
-asStep (rule l k) = none
-asStep wrong-rule = none
-asStep (node op v) = none
-asStep wrong-node = none
-asStep (step s w) = some (record { number = s; truths = w })
-asStep wrong-step = none
+asStep (wrong s f) = none
+asStep (right c) = stepIn c
 
 -- ---- one step line
 pub record Next : Type 0 where

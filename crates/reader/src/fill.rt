@@ -1,4 +1,5 @@
 // The filling pass over a book that is accepted: the rule list and the formula table, a line at a time.
+use line::line::Content;
 use line::line::Line;
 use line::line::read_line;
 use line::text::find;
@@ -8,7 +9,7 @@ ghost use mathlib.Core.Path.{_≡_};
 ghost use Prim.Native.Nat.{_+_, _*_, _≤_, _<_};
 ghost use lib.ListN.{length};
 ghost use Rattle.reader.specs.Tables.{columns};
-ghost use Rattle.reader.specs.Filled.{placed, RuleRoom, RulePut, NodeRoom, NodePut, LineRoom, LinePut, ToldLine, Fillable, FilledTables};
+ghost use Rattle.reader.specs.Filled.{placed, RuleRoom, RulePut, NodeRoom, NodePut, LineRoom, LinePut, Fillable, FilledTables};
 
 // The rules begun, the nodes written, and the nodes of the rule in hand.
 pub struct Tally {
@@ -86,16 +87,6 @@ fn put_node(
     }
 }
 
-// Whether the line begins with `s`: of all words only `step` does.
-fn adds_nothing(line: &[u8]) -> bool
-    ensures { λ r. ⌜ ToldLine (now (line .entry)) r ⌝ }
-{
-    if line.len() == 0 {
-        return false;
-    }
-    line[0] == 115
-}
-
 // One line.
 fn put_line(
     line: &[u8],
@@ -115,20 +106,24 @@ fn put_line(
         (now (ops .exit)) (now (nums .exit))) r ⌝ }
 {
     let l = read_line(line);
-    match l {
-        Line::Rule { start, len, kind } => {
+    let Line::Right(c) = l else {
+        return f;
+    };
+    match c {
+        Content::Rule { start, len, kind } => {
             let rest = past(line, start);
             let label = upto(rest, len);
             put_rule(labels, lens, kinds, firsts, counts, label, kind, f)
         }
-        Line::Node { op, num } => put_node(counts, ops, nums, op, num, f),
-        _ => f,
+        Content::Node { op, num } => put_node(counts, ops, nums, op, num, f),
+        Content::Step { step: _, truths: _ } => f,
     }
 }
 
-// All lines up to the first step; behind it an accepted book has nothing but steps.
+// All lines before the step lines, which begin at `head`.
 pub(crate) fn fill(
     text: &[u8],
+    head: usize,
     labels: &mut [u8],
     lens: &mut [usize],
     kinds: &mut [u8],
@@ -137,7 +132,7 @@ pub(crate) fn fill(
     ops: &mut [u8],
     nums: &mut [u64],
 )
-    requires { ⌜ Fillable (now text) (columns (now labels) (now lens) (now kinds) (now firsts) (now counts) (now ops) (now nums)) ⌝ }
+    requires { ⌜ Fillable (now text) head (columns (now labels) (now lens) (now kinds) (now firsts) (now counts) (now ops) (now nums)) ⌝ }
     ensures { λ _. ⌜ FilledTables (now (text .entry))
         (columns (now (labels .entry)) (now (lens .entry)) (now (kinds .entry)) (now (firsts .entry)) (now (counts .entry)) (now (ops .entry))
         (now (nums .entry))) (columns (now (labels .exit)) (now (lens .exit)) (now (kinds .exit)) (now (firsts .exit)) (now (counts .exit))
@@ -149,13 +144,10 @@ pub(crate) fn fill(
         own: 0,
     };
     let mut at: usize = 0;
-    while at < text.len() {
+    while at < head {
         let rest = past(text, at);
         let n = find(rest, 10);
         let line = upto(rest, n);
-        if adds_nothing(line) {
-            return;
-        }
         f = put_line(line, labels, lens, kinds, firsts, counts, ops, nums, f);
         at += n + 1;
     }

@@ -41,7 +41,7 @@ fn read_roomy(
     match c {
         Checked::Refused { number, line } => Answer::Refused { number, line },
         Checked::Good { rules, nodes, head } => {
-            fill(text, labels, lens, kinds, firsts, counts, ops, nums);
+            fill(text, head, labels, lens, kinds, firsts, counts, ops, nums);
             Answer::Read {
                 rules,
                 nodes,

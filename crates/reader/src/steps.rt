@@ -1,4 +1,5 @@
 // The step lines of a book, one by one: from the place where they begin, each answer names the place of the next.
+use line::line::Content;
 use line::line::Line;
 use line::line::read_line;
 use line::text::find;
@@ -27,12 +28,15 @@ pub fn next_step(text: &[u8], at: usize) -> StepRead
         return StepRead::End;
     }
     let l = read_line(upto(rest, n));
-    match l {
-        Line::Step { step, truths } => StepRead::Step {
-            step,
-            truths,
-            next: at + (n + 1),
-        },
-        _ => StepRead::End,
+    let Line::Right(c) = l else {
+        return StepRead::End;
+    };
+    let Content::Step { step, truths } = c else {
+        return StepRead::End;
+    };
+    StepRead::Step {
+        step,
+        truths,
+        next: at + (n + 1),
     }
 }

@@ -20,13 +20,13 @@ use Rattle.compiler.specs.Compiled as compiling
 use Rattle.compiler_laws.proofs.ReadsBack.{ReadsRule, compiled-reads}
 use Rattle.meaning.specs.Calls.{accepted, Below}
 use Rattle.meaning.specs.Demand.{Lent, Demand}
-use Rattle.meaning.specs.State.{fresh}
+use Rattle.meaning.specs.State.{initialState}
 use Rattle.meaning.proofs.Machines.{meets}
 use Rattle.node_step.specs.Memory.{Memory}
-use Rattle.lent.specs.Lent.{LentTables, LentMonitor, lentOf, tableRoom, monitorRoom, ruleMon, HoldsRule, Ready}
+use Rattle.lent.specs.Lent.{LentTables, LentMonitor, lentOf, tableRoom, monitorRoom, ruleMon, HoldsRule, Ready, monitorOf}
 use Rattle.lent.proofs.Standings.{lent-parts}
 use Rattle.stepping.specs.Walk.{readMon}
-use Rattle.stepping.specs.Fresh.{Making, freshOf, orShort, makeMon, making}
+use Rattle.stepping.specs.Fresh.{Making, freshOf, orShort, makeMon, freshCall}
 use Rattle.stepping.proofs.Starting.{fresh-state, fresh-ready}
 use Rattle.reports.specs.Calls.{Event, step-call, onSlices, ReadsAs, compiledTables, madeMonitor, DemandThree}
 use Rattle.reports.proofs.Following.{lawful}
@@ -36,7 +36,7 @@ pub record MadeOf (t : LentTables) (forms bounds : List ℕ) (mem : Memory) (n :
   pub counted : n ≡ t .ncount
   pub holds : HoldsRule t m
   pub room : monitorRoom forms bounds mem ≡ true
-  pub is : madeMonitor n (making t forms bounds mem) ≡ freshOf t (record { size = 0; forms = forms; bounds = bounds; memory = mem })
+  pub is : madeMonitor n (freshCall t forms bounds mem) ≡ freshOf t (monitorOf 0 forms bounds mem)
 
 given-inj : {a b : ℕ} → _≡_ {A = Result ℕ} (given a) (given b) → a ≡ b
 given-inj e = cc
@@ -45,17 +45,17 @@ not-given : {B : Type 0} {n k : ℕ} → _≡_ {A = Result ℕ} (refused k) (giv
 not-given e = let z : _≡_ {A = ℕ} 0 1 = cc in absurd (omega arith)
 
 module _ (t : LentTables) (forms bounds : List ℕ) (mem : Memory) (n : ℕ) (m : Mon) (own : ruleMon t ≡ some m) where
-  made-by : (b : Bool) → lentOf (t .ops) (t .nums) (t .nodes) forms bounds mem ≡ b → (c : Making) → c ≡ orShort b forms bounds mem (makeMon (some m) t forms bounds mem) → c .answer ≡ given n → (n ≡ t .ncount) × HoldsRule t m × (monitorRoom forms bounds mem ≡ true) × (madeMonitor n c ≡ freshOf t (record { size = 0; forms = forms; bounds = bounds; memory = mem }))
+  made-by : (b : Bool) → lentOf (t .ops) (t .nums) (t .nodes) forms bounds mem ≡ b → (c : Making) → c ≡ orShort b forms bounds mem (makeMon (some m) t forms bounds mem) → c .answer ≡ given n → (n ≡ t .ncount) × HoldsRule t m × (monitorRoom forms bounds mem ≡ true) × (madeMonitor n c ≡ freshOf t (monitorOf 0 forms bounds mem))
   made-by false l c e q = not-given (sym (ap (λ (x : Making). x .answer) e) ∙ q)
   made-by true l c e q =
       let z : n ≡ t .ncount = given-inj (sym q ∙ ap (λ (x : Making). x .answer) e) in
-      let (x, y) = lent-parts t (record { size = 0; forms = forms; bounds = bounds; memory = mem }) l in
+      let (x, y) = lent-parts t (monitorOf 0 forms bounds mem) l in
       (z, record { rule = own; room = x }, y, ap₂ madeMonitor z e)
 
-  pub made-of : making t forms bounds mem .answer ≡ given n → MadeOf t forms bounds mem n m
-  unfolding making
+  pub made-of : freshCall t forms bounds mem .answer ≡ given n → MadeOf t forms bounds mem n m
+  unfolding freshCall
   made-of q =
-      let (a, b, c, d) = made-by (lentOf (t .ops) (t .nums) (t .nodes) forms bounds mem) refl (making t forms bounds mem) (ap (λ (o : Option Mon). orShort (lentOf (t .ops) (t .nums) (t .nodes) forms bounds mem) forms bounds mem (makeMon o t forms bounds mem)) own) q in
+      let (a, b, c, d) = made-by (lentOf (t .ops) (t .nums) (t .nodes) forms bounds mem) refl (freshCall t forms bounds mem) (ap (λ (o : Option Mon). orShort (lentOf (t .ops) (t .nums) (t .nodes) forms bounds mem) forms bounds mem (makeMon o t forms bounds mem)) own) q in
       record { counted = a; holds = b; room = c; is = d }
 
 -- ---- the tables that compiling left have room
@@ -90,8 +90,8 @@ demand-three ops nums first count f is-f out n compiles forms bounds mem made =
     let same : c .formula ≡ f = some-inj (sym (c .rule) ∙ is-f) in
     let own : ruleMon t ≡ some (ruleNode f first) = c .reads ∙ ap (λ (g : Formula). some (ruleNode g first)) same in
     let x = made-of t forms bounds mem n (ruleNode f first) own made in
-    let k₀ : LentMonitor = record { size = 0; forms = forms; bounds = bounds; memory = mem } in
-    meets onSlices f first (ReadsAs (ruleNode f first)) (λ k. Ready k (ruleNode f first)) (lawful (ruleNode f first)) (madeMonitor n (making t forms bounds mem))
+    let k₀ : LentMonitor = monitorOf 0 forms bounds mem in
+    meets onSlices f first (ReadsAs (ruleNode f first)) (λ k. Ready k (ruleNode f first)) (lawful (ruleNode f first)) (madeMonitor n (freshCall t forms bounds mem))
     (ap (λ (k : LentMonitor). readMon (ruleNode f first) (k .memory) 0) (x .is) ∙ fresh-state t k₀ (ruleNode f first) (x .holds) (x .room))
     (subst (λ (k : LentMonitor). Ready k (ruleNode f first)) (sym (x .is)) (fresh-ready t k₀ (ruleNode f first) (x .holds) (x .room)))
     (own-call t (ruleNode f first) (x .holds))

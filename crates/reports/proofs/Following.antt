@@ -10,19 +10,19 @@ use Rattle.result.specs.Result.{Result, given, refused}
 use Rattle.formula.proofs.Trees.{some-inj}
 use Rattle.monitor.specs.Mon.{Mon}
 use Rattle.meaning.specs.State.{State, Stepped, step, newlyFailed}
-use Rattle.meaning.specs.Calls.{Call, accepted, stepAll, words, steps, Below}
+use Rattle.meaning.specs.Calls.{Call, accepted, stepAll, wordsOf, stepCount, Below}
 use Rattle.meaning.specs.Calls as calls
 use Rattle.meaning.specs.Demand.{Fair, Lent}
 use Rattle.meaning.proofs.Machines.{Lawful}
 use Rattle.node_step.specs.Memory.{Memory}
 use Rattle.lent.specs.Lent.{LentTables, LentMonitor, ruleMon, HoldsRule, Ready}
 use Rattle.stepping.specs.Walk.{readMon}
-use Rattle.stepping.specs.Call.{Stepping, stepCall, with}
+use Rattle.stepping.specs.Call.{Effect, stepCall, with}
 use Rattle.stepping.proofs.Staying.{stays-ready, Answered, no-step, steps as stepped, answered, refused-leaves, accepted-windows}
-use Rattle.runs.specs.Run.{answersOf, memoryAfter, firstReport, onReport, Running, manySteps, runCall, Accepts, Each}
+use Rattle.runs.specs.Run.{answersOf, memoryAfter, reportAmong, onReport, manySteps, runCall, Accepts, Each}
 use Rattle.runs.proofs.Calls.{ready-after}
 use Rattle.runs.proofs.Runs.{is-calls, all-accepted, refused-untouched, fits-again, no-words}
-use Rattle.reports.specs.Calls.{Event, step-call, run-call, inTurn, callsBy, stepReport, runReport, callsOf, reportOf, after, onSlices, ReadsAs}
+use Rattle.reports.specs.Calls.{Event, step-call, run-call, inTurn, callsBy, stepReport, runReport, eventCalls, eventReport, afterEvent, onSlices, ReadsAs}
 
 -- ---- one accepted call of `step`, over the rule's own table
 module _ (m : Mon) (t : LentTables) (own : ruleMon t ≡ some m) (k : LentMonitor) (s w : ℕ) (st : State m) (r : ReadsAs m k st) where
@@ -40,7 +40,7 @@ accepted-room m t k s w b own q = go (answered t k s w)
   where
     go : Answered t k s w (stepCall t k s w) → HoldsRule t m × (s < 9223372036854775808)
     go (no-step n e) =
-        let p : stepCall t k s w .answer ≡ refused n = ap (λ (c : Stepping). c .answer) e in
+        let p : stepCall t k s w .answer ≡ refused n = ap (λ (c : Effect Bool). c .answer) e in
         let z : _≡_ {A = ℕ} 0 1 = cc in
         absurd (omega arith)
     go (stepped x a d h e) = (record { rule = own; room = a .room }, h)
@@ -54,14 +54,14 @@ module _ (m : Mon) (t : LentTables) (s w : ℕ) (k : LentMonitor) where
   abbrev one : List Call
   one = accepted s w ∷ []
 
-  one-step : (b : Bool) → stepCall t k s w .answer ≡ given b → 1 ≤ steps (callsBy (stepCall t k s w .answer) one)
-  unfolding words
-  one-step b q = subst (λ (r : Result Bool). 1 ≤ steps (callsBy r one)) (sym q) (omega arith)
+  one-step : (b : Bool) → stepCall t k s w .answer ≡ given b → 1 ≤ stepCount (callsBy (stepCall t k s w .answer) one)
+  unfolding wordsOf
+  one-step b q = subst (λ (r : Result Bool). 1 ≤ stepCount (callsBy r one)) (sym q) (omega arith)
 
   abbrev StepGoal : State m → Result Bool → Type 0
   StepGoal st a = (readMon m (stepCall t k s w .memory) 0 ≡ stepAll m st (callsBy a one)) × (stepReport a s ≡ calls.reportOf m st (callsBy a one))
 
-  step-follows : (st : State m) → ReadsAs m k st → Fair onSlices m (step-call t s w) k → ReadsAs m (after (step-call t s w) k) (stepAll m st (callsOf (step-call t s w) k)) × (reportOf (step-call t s w) k ≡ calls.reportOf m st (callsOf (step-call t s w) k))
+  step-follows : (st : State m) → ReadsAs m k st → Fair onSlices m (step-call t s w) k → ReadsAs m (afterEvent (step-call t s w) k) (stepAll m st (eventCalls (step-call t s w) k)) × (eventReport (step-call t s w) k ≡ calls.reportOf m st (eventCalls (step-call t s w) k))
   unfolding stepAll calls.reportOf
   step-follows st r fair = go (stepCall t k s w .answer) refl
     where
@@ -71,7 +71,7 @@ module _ (m : Mon) (t : LentTables) (s w : ℕ) (k : LentMonitor) where
           subst (StepGoal st) (sym q) (x, report-cond b s ∙ ap (λ (c : Bool). cond c (some s) none) y)
       go (refused n) q = subst (StepGoal st) (sym q) (ap (λ (x : Memory). readMon m x 0) (refused-leaves t k s w n q) ∙ r, refl)
 
-  step-stays : Ready k m → Fair onSlices m (step-call t s w) k → Ready (after (step-call t s w) k) m
+  step-stays : Ready k m → Fair onSlices m (step-call t s w) k → Ready (afterEvent (step-call t s w) k) m
   step-stays d fair = go (stepCall t k s w .answer) refl
     where
       go : (a : Result Bool) → stepCall t k s w .answer ≡ a → Ready (with k (stepCall t k s w .memory)) m
@@ -80,11 +80,11 @@ module _ (m : Mon) (t : LentTables) (s w : ℕ) (k : LentMonitor) where
           stays-ready t k m a d s w h .again
       go (refused n) q = subst (λ (x : Memory). Ready (with k x) m) (sym (refused-leaves t k s w n q)) d
 
-  step-takes : Ready k m → Lent onSlices m (step-call t s w) → callsOf (step-call t s w) k ≡ accepted s w ∷ []
+  step-takes : Ready k m → Lent onSlices m (step-call t s w) → eventCalls (step-call t s w) k ≡ accepted s w ∷ []
   unfolding Below
   step-takes d g =
       let x = stays-ready t k m (record { rule = g .own; room = g .roomy }) d s w (g .below .0) in
-      ap (λ (c : Stepping). callsBy (c .answer) one) (x .accepted)
+      ap (λ (c : Effect Bool). callsBy (c .answer) one) (x .accepted)
 
 -- ---- a call of `run`
 report-first : {A : Type 0} (v : Result Bool) (b : Bool) (x y : A) → v ≡ given b → onReport v x y ≡ cond b x y
@@ -92,14 +92,14 @@ report-first v true x y q = ap (λ (r : Result Bool). onReport r x y) q
 report-first v false x y q = ap (λ (r : Result Bool). onReport r x y) q
 
 -- accepted calls one behind the other
-many : (m : Mon) (t : LentTables) → ruleMon t ≡ some m → (ws : List ℕ) (k : LentMonitor) (s : ℕ) (st : State m) → ReadsAs m k st → Each Accepts (answersOf t k s ws) → (readMon m (memoryAfter t k s ws) 0 ≡ stepAll m st (inTurn s ws)) × (firstReport s (answersOf t k s ws) ≡ calls.reportOf m st (inTurn s ws))
-unfolding answersOf memoryAfter firstReport inTurn stepAll calls.reportOf Each
+many : (m : Mon) (t : LentTables) → ruleMon t ≡ some m → (ws : List ℕ) (k : LentMonitor) (s : ℕ) (st : State m) → ReadsAs m k st → Each Accepts (answersOf t k s ws) → (readMon m (memoryAfter t k s ws) 0 ≡ stepAll m st (inTurn s ws)) × (reportAmong s (answersOf t k s ws) ≡ calls.reportOf m st (inTurn s ws))
+unfolding answersOf memoryAfter reportAmong inTurn stepAll calls.reportOf Each
 many m t own [] k s st r e = (r, refl)
 many m t own (w ∷ ws) k s st r e =
     let (b, q) = e .0 in
     let (x, y) = accepted-step m t own k s w st r b q in
     let (u, v) = many m t own ws (with k (stepCall t k s w .memory)) (s + 1) (step m st s w .state) x (e .1) in
-    (u, report-first (stepCall t k s w .answer) b (some s) (firstReport (s + 1) (answersOf t (with k (stepCall t k s w .memory)) (s + 1) ws)) q ∙ ap₂ (λ (c : Bool) (o : Option ℕ). cond c (some s) o) y v)
+    (u, report-first (stepCall t k s w .answer) b (some s) (reportAmong (s + 1) (answersOf t (with k (stepCall t k s w .memory)) (s + 1) ws)) q ∙ ap₂ (λ (c : Bool) (o : Option ℕ). cond c (some s) o) y v)
 
 given-inj : {A : Type 0} {a b : A} → given a ≡ given b → a ≡ b
 given-inj e = cc
@@ -115,23 +115,23 @@ below-all (v ∷ ws) s w h = omega (arith, below-all ws (s + 1) v (h .1))
 module _ (m : Mon) (t : LentTables) (s : ℕ) (k : LentMonitor) where
   -- over words that were stepped the rule's own table was lent
   fair-own : (w : ℕ) (ws : List ℕ) (o : Option ℕ) → runCall t k s (w ∷ ws) .answer ≡ given o → Fair onSlices m (run-call t s (w ∷ ws)) k → ruleMon t ≡ some m
-  unfolding words inTurn
-  fair-own w ws o q fair = fair (subst (λ (a : Result (Option ℕ)). 1 ≤ steps (callsBy a (inTurn s (w ∷ ws)))) (sym q) (omega arith))
+  unfolding wordsOf inTurn
+  fair-own w ws o q fair = fair (subst (λ (a : Result (Option ℕ)). 1 ≤ stepCount (callsBy a (inTurn s (w ∷ ws)))) (sym q) (omega arith))
 
   taken-follows : (ws : List ℕ) (st : State m) (o : Option ℕ) → runCall t k s ws .answer ≡ given o → ReadsAs m k st → Fair onSlices m (run-call t s ws) k → (readMon m (runCall t k s ws .memory) 0 ≡ stepAll m st (inTurn s ws)) × (o ≡ calls.reportOf m st (inTurn s ws))
-  unfolding answersOf memoryAfter firstReport inTurn stepAll calls.reportOf
+  unfolding answersOf memoryAfter reportAmong inTurn stepAll calls.reportOf
   taken-follows [] st o q r fair =
       let e = is-calls t k s [] (not-refused q) in
-      (ap (λ (c : Running). readMon m (c .memory) 0) e ∙ r, given-inj (sym q ∙ ap (λ (c : Running). c .answer) e))
+      (ap (λ (c : Effect (Option ℕ)). readMon m (c .memory) 0) e ∙ r, given-inj (sym q ∙ ap (λ (c : Effect (Option ℕ)). c .answer) e))
   taken-follows (w ∷ ws) st o q r fair =
       let e = is-calls t k s (w ∷ ws) (not-refused q) in
       let (x, y) = many m t (fair-own w ws o q fair) (w ∷ ws) k s st r (all-accepted t k s (w ∷ ws) (not-refused q)) in
-      (ap (λ (c : Running). readMon m (c .memory) 0) e ∙ x, given-inj (sym q ∙ ap (λ (c : Running). c .answer) e) ∙ y)
+      (ap (λ (c : Effect (Option ℕ)). readMon m (c .memory) 0) e ∙ x, given-inj (sym q ∙ ap (λ (c : Effect (Option ℕ)). c .answer) e) ∙ y)
 
   abbrev RunGoal : List ℕ → State m → Result (Option ℕ) → Type 0
   RunGoal ws st a = (readMon m (runCall t k s ws .memory) 0 ≡ stepAll m st (callsBy a (inTurn s ws))) × (runReport a ≡ calls.reportOf m st (callsBy a (inTurn s ws)))
 
-  run-follows : (ws : List ℕ) (st : State m) → ReadsAs m k st → Fair onSlices m (run-call t s ws) k → ReadsAs m (after (run-call t s ws) k) (stepAll m st (callsOf (run-call t s ws) k)) × (reportOf (run-call t s ws) k ≡ calls.reportOf m st (callsOf (run-call t s ws) k))
+  run-follows : (ws : List ℕ) (st : State m) → ReadsAs m k st → Fair onSlices m (run-call t s ws) k → ReadsAs m (afterEvent (run-call t s ws) k) (stepAll m st (eventCalls (run-call t s ws) k)) × (eventReport (run-call t s ws) k ≡ calls.reportOf m st (eventCalls (run-call t s ws) k))
   unfolding stepAll calls.reportOf
   run-follows ws st r fair = go (runCall t k s ws .answer) refl
     where
@@ -139,38 +139,38 @@ module _ (m : Mon) (t : LentTables) (s : ℕ) (k : LentMonitor) where
       go (given o) q = subst (RunGoal ws st) (sym q) (taken-follows ws st o q r fair)
       go (refused n) q = subst (RunGoal ws st) (sym q) (ap (λ (x : Memory). readMon m x 0) (refused-untouched t k s ws n q) ∙ r, refl)
 
-  run-stays : (ws : List ℕ) → Ready k m → Fair onSlices m (run-call t s ws) k → Ready (after (run-call t s ws) k) m
+  run-stays : (ws : List ℕ) → Ready k m → Fair onSlices m (run-call t s ws) k → Ready (afterEvent (run-call t s ws) k) m
   unfolding memoryAfter answersOf Each
   run-stays ws d fair = go ws (runCall t k s ws .answer) refl fair
     where
       go : (vs : List ℕ) (a : Result (Option ℕ)) → runCall t k s vs .answer ≡ a → Fair onSlices m (run-call t s vs) k → Ready (with k (runCall t k s vs .memory)) m
       go vs (refused n) q f = subst (λ (x : Memory). Ready (with k x) m) (sym (refused-untouched t k s vs n q)) d
-      go [] (given o) q f = subst (λ (c : Running). Ready (with k (c .memory)) m) (sym (is-calls t k s [] (not-refused q))) d
+      go [] (given o) q f = subst (λ (c : Effect (Option ℕ)). Ready (with k (c .memory)) m) (sym (is-calls t k s [] (not-refused q))) d
       go (w ∷ vs) (given o) q f =
           let (b, p) = all-accepted t k s (w ∷ vs) (not-refused q) .0 in
           let (a, h) = accepted-room m t k s w b (fair-own w vs o q f) p in
-          subst (λ (c : Running). Ready (with k (c .memory)) m) (sym (is-calls t k s (w ∷ vs) (not-refused q))) (ready-after t m a (w ∷ vs) k s d)
+          subst (λ (c : Effect (Option ℕ)). Ready (with k (c .memory)) m) (sym (is-calls t k s (w ∷ vs) (not-refused q))) (ready-after t m a (w ∷ vs) k s d)
 
-  run-takes : (ws : List ℕ) → Ready k m → Lent onSlices m (run-call t s ws) → callsOf (run-call t s ws) k ≡ inTurn s ws
+  run-takes : (ws : List ℕ) → Ready k m → Lent onSlices m (run-call t s ws) → eventCalls (run-call t s ws) k ≡ inTurn s ws
   run-takes [] d g =
       let a : HoldsRule t m = record { rule = g .own; room = g .roomy } in
-      ap (λ (c : Running). callsBy (c .answer) (inTurn s [])) (no-words t k s 0 ∙ fits-again t k 0 [] m a d (omega arith) .taken)
+      ap (λ (c : Effect (Option ℕ)). callsBy (c .answer) (inTurn s [])) (no-words t k s 0 ∙ fits-again t k 0 [] m a d (omega arith) .taken)
   run-takes (w ∷ ws) d g =
       let a : HoldsRule t m = record { rule = g .own; room = g .roomy } in
-      ap (λ (c : Running). callsBy (c .answer) (inTurn s (w ∷ ws))) (fits-again t k s (w ∷ ws) m a d (below-all ws s w (g .below)) .taken)
+      ap (λ (c : Effect (Option ℕ)). callsBy (c .answer) (inTurn s (w ∷ ws))) (fits-again t k s (w ∷ ws) m a d (below-all ws s w (g .below)) .taken)
 
 -- ---- the machine
 pub lawful : (m : Mon) → Lawful onSlices m (ReadsAs m) (λ k. Ready k m)
 lawful m = record { follows = follows; stays = stays; takes = takes }
   where
-    follows : (e : Event) (k : LentMonitor) (st : State m) → ReadsAs m k st → Fair onSlices m e k → ReadsAs m (after e k) (stepAll m st (callsOf e k)) × (reportOf e k ≡ calls.reportOf m st (callsOf e k))
+    follows : (e : Event) (k : LentMonitor) (st : State m) → ReadsAs m k st → Fair onSlices m e k → ReadsAs m (afterEvent e k) (stepAll m st (eventCalls e k)) × (eventReport e k ≡ calls.reportOf m st (eventCalls e k))
     follows (step-call t s w) k st r f = step-follows m t s w k st r f
     follows (run-call t s ws) k st r f = run-follows m t s k ws st r f
 
-    stays : (e : Event) (k : LentMonitor) → Ready k m → Fair onSlices m e k → Ready (after e k) m
+    stays : (e : Event) (k : LentMonitor) → Ready k m → Fair onSlices m e k → Ready (afterEvent e k) m
     stays (step-call t s w) k d f = step-stays m t s w k d f
     stays (run-call t s ws) k d f = run-stays m t s k ws d f
 
-    takes : (e : Event) (k : LentMonitor) → Ready k m → Lent onSlices m e → callsOf e k ≡ onSlices .asks e
+    takes : (e : Event) (k : LentMonitor) → Ready k m → Lent onSlices m e → eventCalls e k ≡ onSlices .asks e
     takes (step-call t s w) k d g = step-takes m t s w k d g
     takes (run-call t s ws) k d g = run-takes m t s k ws d g

@@ -18,10 +18,10 @@ use Rattle.meaning.specs.Calls as calls
 use Rattle.meaning.specs.Demand.{Machine, Demand}
 use Rattle.meaning.specs.State.{State}
 use Rattle.node_step.specs.Memory.{Memory}
-use Rattle.lent.specs.Lent.{LentTables, LentMonitor, tableRoom, ruleMon}
+use Rattle.lent.specs.Lent.{LentTables, LentMonitor, tableRoom, ruleMon, monitorOf, tables}
 use Rattle.stepping.specs.Walk.{readMon}
 use Rattle.stepping.specs.Call.{stepCall, with}
-use Rattle.stepping.specs.Fresh.{Making, making}
+use Rattle.stepping.specs.Fresh.{Making, freshCall}
 use Rattle.runs.specs.Run.{runCall}
 
 -- a call of `step` at s with truths w, or of `run` from s on over words
@@ -58,26 +58,26 @@ abbrev pub runReport : Result (Option ℕ) → Option ℕ
 runReport (given r) = r
 runReport (refused n) = none
 
-abbrev pub callsOf : Event → LentMonitor → List Call
-callsOf (step-call t s w) k = callsBy (stepCall t k s w .answer) (accepted s w ∷ [])
-callsOf (run-call t s ws) k = callsBy (runCall t k s ws .answer) (inTurn s ws)
+abbrev pub eventCalls : Event → LentMonitor → List Call
+eventCalls (step-call t s w) k = callsBy (stepCall t k s w .answer) (accepted s w ∷ [])
+eventCalls (run-call t s ws) k = callsBy (runCall t k s ws .answer) (inTurn s ws)
 
-abbrev pub reportOf : Event → LentMonitor → Option ℕ
-reportOf (step-call t s w) k = stepReport (stepCall t k s w .answer) s
-reportOf (run-call t s ws) k = runReport (runCall t k s ws .answer)
+abbrev pub eventReport : Event → LentMonitor → Option ℕ
+eventReport (step-call t s w) k = stepReport (stepCall t k s w .answer) s
+eventReport (run-call t s ws) k = runReport (runCall t k s ws .answer)
 
-abbrev pub after : Event → LentMonitor → LentMonitor
-after (step-call t s w) k = with k (stepCall t k s w .memory)
-after (run-call t s ws) k = with k (runCall t k s ws .memory)
+abbrev pub afterEvent : Event → LentMonitor → LentMonitor
+afterEvent (step-call t s w) k = with k (stepCall t k s w .memory)
+afterEvent (run-call t s ws) k = with k (runCall t k s ws .memory)
 
 abbrev pub onSlices : Machine LentMonitor Event
 onSlices = record {
   asks = asked;
   Own = λ e m. ruleMon (tablesOf e) ≡ some m;
   Roomy = λ e. tableRoom (tablesOf e .ops) (tablesOf e .nums) (tablesOf e .nodes) ≡ true;
-  calls = callsOf;
-  reports = reportOf;
-  run = after;
+  calls = eventCalls;
+  reports = eventReport;
+  run = afterEvent;
 }
 
 -- the monitor reads as a state of m
@@ -88,17 +88,17 @@ ReadsAs m k st = readMon m (k .memory) 0 ≡ st
 -- the tables after compiling the rule at `first` of `count` nodes into `out`, n nodes
 abbrev pub compiledTables : List ℕ → List ℕ → ℕ → ℕ → List ℕ → ℕ → LentTables
 compiledTables ops nums first count out n =
-    record { ops = ops; nums = nums; first = first; count = count; nodes = compileCall ops nums first count out .out; nfirst = 0; ncount = n }
+    tables ops nums first count (compileCall ops nums first count out .out) 0 n
 
 -- the monitor of n nodes after making it
 abbrev pub madeMonitor : ℕ → Making → LentMonitor
-madeMonitor n c = record { size = n; forms = c .forms; bounds = c .bounds; memory = c .memory }
+madeMonitor n c = monitorOf n (c .forms) (c .bounds) (c .memory)
 
 -- the rule f compiles to n nodes, and its fresh monitor is made of n nodes in what is lent: demand 3 holds from there on
 abbrev pub DemandThree : Type 0
 DemandThree =
     (ops nums : List ℕ) (first count : ℕ) (f : Formula) → ruleOf ops nums first count ≡ some f →
     (out : List ℕ) (n : ℕ) → compileCall ops nums first count out .answer ≡ given n →
-    (forms bounds : List ℕ) (mem : Memory) → making (compiledTables ops nums first count out n) forms bounds mem .answer ≡ given n →
+    (forms bounds : List ℕ) (mem : Memory) → freshCall (compiledTables ops nums first count out n) forms bounds mem .answer ≡ given n →
     Demand onSlices f (ruleNode f first) (ReadsAs (ruleNode f first))
-    (madeMonitor n (making (compiledTables ops nums first count out n) forms bounds mem))
+    (madeMonitor n (freshCall (compiledTables ops nums first count out n) forms bounds mem))

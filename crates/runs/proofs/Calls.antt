@@ -17,13 +17,13 @@ use Rattle.meaning.specs.State.{step, failed, newlyFailed}
 use Rattle.meaning.proofs.Meaning.{stays-marked, reports-once}
 use Rattle.node_step.specs.Memory.{Memory}
 use Rattle.stepping.specs.Walk.{readMon}
-use Rattle.lent.specs.Lent.{LentTables, LentMonitor, isLent, ruleMon, fits, HoldsRule, Ready}
-use Rattle.lent.proofs.Standings.{lent-parts, lent-both}
-use Rattle.stepping.specs.Call.{Stepping, accept, stepMon, stepCall, with}
-use Rattle.stepping.specs.Call as one
+use Rattle.lent.specs.Lent.{LentTables, LentMonitor, HoldsRule, Ready}
+use Rattle.stepping.specs.Call.{Effect, refuse, orRefuse, overRule, accept, stepCall, with}
+use Rattle.stepping.proofs.Calling.{Went, refused-called, ready-called, went}
+use Rattle.stepping.proofs.Calling as calling
 use Rattle.stepping.proofs.Memories.{read-back}
 use Rattle.stepping.proofs.Staying.{inside-own, ready-call, stays-ready}
-use Rattle.runs.specs.Run.{answersOf, memoryAfter, firstReport, Running, refuse, orRefuse, manySteps, inTime, runMon, runCall, Taken, Accepts, Each, Some, Lowest, ReportsAt}
+use Rattle.runs.specs.Run.{answersOf, memoryAfter, reportAmong, manySteps, inTime, runCall, RunTaken, Accepts, Each, Some, Lowest, ReportsAt}
 use Rattle.runs.proofs.Running.{below-in-time}
 
 given-inj : {x y : Option ℕ} → given x ≡ given y → x ≡ y
@@ -62,15 +62,15 @@ pub record FoundAt (vs : List (Result Bool)) (s n : ℕ) : Type 0 where
 found-later : (v : Result Bool) (vs : List (Result Bool)) (s n : ℕ) → FoundAt vs (s + 1) n → FoundAt (v ∷ vs) s n
 found-later v vs s n f = record { at-word = suc (f .at-word); step-is = omega (arith, f .step-is); reports = f .reports }
 
-pub found : (vs : List (Result Bool)) (s n : ℕ) → firstReport s vs ≡ some n → FoundAt vs s n
-unfolding firstReport
+pub found : (vs : List (Result Bool)) (s n : ℕ) → reportAmong s vs ≡ some n → FoundAt vs s n
+unfolding reportAmong
 found [] s n e = let z : _≡_ {A = ℕ} 0 1 = cc in absurd (omega arith)
 found (given true ∷ vs) s n e = let z : s ≡ n = cc in record { at-word = 0; step-is = omega arith; reports = refl }
 found (given false ∷ vs) s n e = found-later (given false) vs s n (found vs (s + 1) n e)
 found (refused m ∷ vs) s n e = found-later (refused m) vs s n (found vs (s + 1) n e)
 
-pub finds : (vs : List (Result Bool)) (s i : ℕ) → ReportsAt vs i → (n : ℕ) × (firstReport s vs ≡ some n)
-unfolding firstReport
+pub finds : (vs : List (Result Bool)) (s i : ℕ) → ReportsAt vs i → (n : ℕ) × (reportAmong s vs ≡ some n)
+unfolding reportAmong
 finds [] s i e = let z : _≡_ {A = ℕ} 0 1 = cc in absurd (omega arith)
 finds (given true ∷ vs) s i e = (s, refl)
 finds (given false ∷ vs) s zero e = let z : false ≡ true = cc in true-false z refl
@@ -79,22 +79,23 @@ finds (refused m ∷ vs) s zero e = let z : _≡_ {A = ℕ} 0 1 = cc in absurd (
 finds (refused m ∷ vs) s (suc i) e = finds vs (s + 1) i e
 
 -- ---- where each call is refused with the same number
-pub all-refused : (t : LentTables) (k : LentMonitor) (n : ℕ) → ((s w : ℕ) → stepCall t k s w ≡ one.refuse n (k .memory)) → (ws : List ℕ) (s : ℕ) → Each (λ v. v ≡ refused n) (answersOf t k s ws)
+pub all-refused : (t : LentTables) (k : LentMonitor) (n : ℕ) → ((s w : ℕ) → stepCall t k s w ≡ refuse n (k .memory)) → (ws : List ℕ) (s : ℕ)
+    → Each (λ v. v ≡ refused n) (answersOf t k s ws)
 unfolding Each answersOf
 all-refused t k n h [] s = tt
 all-refused t k n h (w ∷ ws) s = (
-  ap (λ (c : Stepping). c .answer) (h s w),
-  subst (λ (c : Stepping). Each (λ v. v ≡ refused n) (answersOf t (with k (c .memory)) (s + 1) ws)) (sym (h s w)) (all-refused t k n h ws (s + 1)),
+  ap (λ (c : Effect Bool). c .answer) (h s w),
+  subst (λ (c : Effect Bool). Each (λ v. v ≡ refused n) (answersOf t (with k (c .memory)) (s + 1) ws)) (sym (h s w)) (all-refused t k n h ws (s + 1)),
 )
 
 -- ---- a monitor that fits its rule's table: its calls are accepted below 2^63, and refused with 24 from there on
 module _ (t : LentTables) (m : Mon) (a : HoldsRule t m) where
-  late-call : (k : LentMonitor) → Ready k m → (s w : ℕ) → 9223372036854775808 ≤ s → stepCall t k s w ≡ one.refuse 24 (k .memory)
-  late-call k d s w h = ready-call t k m a d s w ∙ ap (λ (b : Bool). one.orRefuse b 24 (k .memory) (accept m (k .memory) s w)) (le-ltb s 9223372036854775808 h)
+  late-call : (k : LentMonitor) → Ready k m → (s w : ℕ) → 9223372036854775808 ≤ s → stepCall t k s w ≡ refuse 24 (k .memory)
+  late-call k d s w h = ready-call t k m a d s w ∙ ap (λ (b : Bool). orRefuse b 24 (k .memory) (accept m (k .memory) s w)) (le-ltb s 9223372036854775808 h)
 
   data Called (k : LentMonitor) (s w : ℕ) : Type 0 where
     taken : stepCall t k s w ≡ accept m (k .memory) s w → Ready (with k (stepCall t k s w .memory)) m → Called k s w
-    too-late : stepCall t k s w ≡ one.refuse 24 (k .memory) → Called k s w
+    too-late : stepCall t k s w ≡ refuse 24 (k .memory) → Called k s w
 
   called : (k : LentMonitor) → Ready k m → (s w : ℕ) → Called k s w
   called k d s w = go (below-or s 9223372036854775808)
@@ -105,7 +106,7 @@ module _ (t : LentTables) (m : Mon) (a : HoldsRule t m) where
 
   ready-on : (k : LentMonitor) → Ready k m → (s w : ℕ) → Called k s w → Ready (with k (stepCall t k s w .memory)) m
   ready-on k d s w (taken e r) = r
-  ready-on k d s w (too-late e) = subst (λ (c : Stepping). Ready (with k (c .memory)) m) (sym e) d
+  ready-on k d s w (too-late e) = subst (λ (c : Effect Bool). Ready (with k (c .memory)) m) (sym e) d
 
   pub all-accept : (ws : List ℕ) (k : LentMonitor) (s : ℕ) → Ready k m → inTime s ws ≡ true → Each Accepts (answersOf t k s ws)
   unfolding Each answersOf inTime
@@ -113,14 +114,14 @@ module _ (t : LentTables) (m : Mon) (a : HoldsRule t m) where
   all-accept (w ∷ ws) k s d h =
       let (now, later) = both-true (ltb s 9223372036854775808) (inTime (s + 1) ws) h in
       let x = stays-ready t k m a d s w (ltb-true s 9223372036854775808 now) in
-      ((newlyFailed m (readMon m (k .memory) 0) s w, ap (λ (c : Stepping). c .answer) (x .accepted)), all-accept ws (with k (stepCall t k s w .memory)) (s + 1) (x .again) later)
+      ((newlyFailed m (readMon m (k .memory) 0) s w, ap (λ (c : Effect Bool). c .answer) (x .accepted)), all-accept ws (with k (stepCall t k s w .memory)) (s + 1) (x .again) later)
 
   only-late : (k : LentMonitor) (s w : ℕ) → Called k s w → (n : ℕ) → stepCall t k s w .answer ≡ refused n → n ≡ 24
   only-late k s w (taken e r) n q =
-      let p : stepCall t k s w .answer ≡ given (newlyFailed m (readMon m (k .memory) 0) s w) = ap (λ (c : Stepping). c .answer) e in
+      let p : stepCall t k s w .answer ≡ given (newlyFailed m (readMon m (k .memory) 0) s w) = ap (λ (c : Effect Bool). c .answer) e in
       let z : _≡_ {A = ℕ} 0 1 = cc in
       absurd (omega arith)
-  only-late k s w (too-late e) n q = let p : stepCall t k s w .answer ≡ refused 24 = ap (λ (c : Stepping). c .answer) e in cc
+  only-late k s w (too-late e) n q = let p : stepCall t k s w .answer ≡ refused 24 = ap (λ (c : Effect Bool). c .answer) e in cc
 
   pub each-late : (ws : List ℕ) (k : LentMonitor) (s : ℕ) → Ready k m → Each (λ v. (n : ℕ) → v ≡ refused n → n ≡ 24) (answersOf t k s ws)
   unfolding Each answersOf
@@ -131,7 +132,7 @@ module _ (t : LentTables) (m : Mon) (a : HoldsRule t m) where
   late-or-rest k d s w rest R f h = go (below-or s 9223372036854775808) (ltb s 9223372036854775808) refl h
     where
       go : (s < 9223372036854775808) ⊎ (9223372036854775808 ≤ s) → (b : Bool) → ltb s 9223372036854775808 ≡ b → (b && rest) ≡ false → (stepCall t k s w .answer ≡ refused 24) ⊎ R
-      go (inr l) b e g = inl (ap (λ (c : Stepping). c .answer) (late-call k d s w l))
+      go (inr l) b e g = inl (ap (λ (c : Effect Bool). c .answer) (late-call k d s w l))
       go (inl l) true e g = inr (f g)
       go (inl l) false e g = true-false (lt-ltb s 9223372036854775808 l) e
 
@@ -146,30 +147,30 @@ module _ (t : LentTables) (m : Mon) (a : HoldsRule t m) where
 
   taken-reads : (k : LentMonitor) → Ready k m → (s w : ℕ) → stepCall t k s w ≡ accept m (k .memory) s w → readMon m (stepCall t k s w .memory) 0 ≡ step m (readMon m (k .memory) 0) s w .state
   taken-reads k d s w e =
-      ap (λ (c : Stepping). readMon m (c .memory) 0) e
+      ap (λ (c : Effect Bool). readMon m (c .memory) 0) e
       ∙ read-back m (step m (readMon m (k .memory) 0) s w .state) (k .memory) 0 (inside-own t k m a d)
 
   marked-on : (k : LentMonitor) → Ready k m → (s w : ℕ) → Called k s w → Marked (k .memory) → Marked (stepCall t k s w .memory)
   marked-on k d s w (taken e r) f = ap (failed m) (taken-reads k d s w e) ∙ stays-marked m (readMon m (k .memory) 0) s w f
-  marked-on k d s w (too-late e) f = subst (λ (c : Stepping). Marked (c .memory)) (sym e) f
+  marked-on k d s w (too-late e) f = subst (λ (c : Effect Bool). Marked (c .memory)) (sym e) f
 
   marks : (k : LentMonitor) → Ready k m → (s w : ℕ) → Called k s w → stepCall t k s w .answer ≡ given true → Marked (stepCall t k s w .memory)
   marks k d s w (taken e r) q =
-      let p : stepCall t k s w .answer ≡ given (newlyFailed m (readMon m (k .memory) 0) s w) = ap (λ (c : Stepping). c .answer) e in
+      let p : stepCall t k s w .answer ≡ given (newlyFailed m (readMon m (k .memory) 0) s w) = ap (λ (c : Effect Bool). c .answer) e in
       let n : newlyFailed m (readMon m (k .memory) 0) s w ≡ true = cc in
       ap (failed m) (taken-reads k d s w e) ∙ both-true (failed m (step m (readMon m (k .memory) 0) s w .state)) _ n .0
   marks k d s w (too-late e) q =
-      let p : stepCall t k s w .answer ≡ refused 24 = ap (λ (c : Stepping). c .answer) e in
+      let p : stepCall t k s w .answer ≡ refused 24 = ap (λ (c : Effect Bool). c .answer) e in
       let z : _≡_ {A = ℕ} 0 1 = cc in
       absurd (omega arith)
 
   silent : (k : LentMonitor) → (s w : ℕ) → Called k s w → Marked (k .memory) → stepCall t k s w .answer ≡ given true → ⊥
   silent k s w (taken e r) f q =
-      let p : stepCall t k s w .answer ≡ given (newlyFailed m (readMon m (k .memory) 0) s w) = ap (λ (c : Stepping). c .answer) e in
+      let p : stepCall t k s w .answer ≡ given (newlyFailed m (readMon m (k .memory) 0) s w) = ap (λ (c : Effect Bool). c .answer) e in
       let n : newlyFailed m (readMon m (k .memory) 0) s w ≡ true = cc in
       true-false n (reports-once m (readMon m (k .memory) 0) s w f)
   silent k s w (too-late e) f q =
-      let p : stepCall t k s w .answer ≡ refused 24 = ap (λ (c : Stepping). c .answer) e in
+      let p : stepCall t k s w .answer ≡ refused 24 = ap (λ (c : Effect Bool). c .answer) e in
       let z : _≡_ {A = ℕ} 0 1 = cc in
       omega arith
 
@@ -198,67 +199,50 @@ module _ (t : LentTables) (m : Mon) (a : HoldsRule t m) where
   pub ready-runs : (ws : List ℕ) (k : LentMonitor) (s : ℕ) → Ready k m → s + length ws ≤ 9223372036854775808 → runCall t k s ws ≡ manySteps t k s ws
   unfolding runCall
   ready-runs ws k s d h =
-      ap (λ (b : Bool). orRefuse b 1 (k .memory) (runMon (ruleMon t) t k s ws)) (lent-both t k m a d)
-      ∙ ap (λ (o : Option Mon). runMon o t k s ws) (a .rule)
-      ∙ ap₂ (λ (b c : Bool). orRefuse b 2 (k .memory) (orRefuse c 24 (k .memory) (manySteps t k s ws))) (d .fit) (below-in-time s ws h)
+      ready-called t k (inTime s ws) (λ n. manySteps t k s ws) m a d
+      ∙ ap (λ (b : Bool). orRefuse b 24 (k .memory) (manySteps t k s ws)) (below-in-time s ws h)
 
 -- ---- the three ways that a run goes
-pub data Case (t : LentTables) (k : LentMonitor) (s : ℕ) (ws : List ℕ) (c : Running) : Type 0 where
-  stops : (n : ℕ) → ((i w : ℕ) → stepCall t k i w ≡ one.refuse n (k .memory)) → c ≡ refuse n (k .memory) → Case t k s ws c
+pub data Case (t : LentTables) (k : LentMonitor) (s : ℕ) (ws : List ℕ) (c : Effect (Option ℕ)) : Type 0 where
+  stops : (n : ℕ) → ((i w : ℕ) → stepCall t k i w ≡ refuse n (k .memory)) → c ≡ refuse n (k .memory) → Case t k s ws c
   late : (m : Mon) → HoldsRule t m → Ready k m → inTime s ws ≡ false → c ≡ refuse 24 (k .memory) → Case t k s ws c
   goes : (m : Mon) → HoldsRule t m → Ready k m → inTime s ws ≡ true → c ≡ manySteps t k s ws → Case t k s ws c
 
 pub case-of : (t : LentTables) (k : LentMonitor) (s : ℕ) (ws : List ℕ) → Case t k s ws (runCall t k s ws)
 unfolding runCall stepCall
-case-of t k s ws = lent (isLent t k) refl
+case-of t k s ws = go (went t k (inTime s ws) (λ m. manySteps t k s ws))
   where
-    timed : (m : Mon) → HoldsRule t m → Ready k m → (b : Bool) → inTime s ws ≡ b → Case t k s ws (orRefuse b 24 (k .memory) (manySteps t k s ws))
-    timed m a d true e = goes m a d e refl
-    timed m a d false e = late m a d e refl
-
-    fit : (m : Mon) → ruleMon t ≡ some m → isLent t k ≡ true → (b : Bool) → fits m k ≡ b → Case t k s ws (orRefuse b 2 (k .memory) (orRefuse (inTime s ws) 24 (k .memory) (manySteps t k s ws)))
-    fit m r l true e = let (x, y) = lent-parts t k l in timed m (record { rule = r; room = x }) (record { fit = e; room = y }) (inTime s ws) refl
-    fit m r l false e =
-        stops 2
-        (λ i w. ap (λ (b : Bool). one.orRefuse b 1 (k .memory) (stepMon (ruleMon t) k i w)) l
-        ∙ ap (λ (o : Option Mon). stepMon o k i w) r
-        ∙ ap (λ (b : Bool). one.orRefuse b 2 (k .memory) (one.orRefuse (ltb i 9223372036854775808) 24 (k .memory) (accept m (k .memory) i w))) e)
-        refl
-
-    known : (o : Option Mon) → ruleMon t ≡ o → isLent t k ≡ true → Case t k s ws (runMon o t k s ws)
-    known none r l = stops 2 (λ i w. ap (λ (b : Bool). one.orRefuse b 1 (k .memory) (stepMon (ruleMon t) k i w)) l ∙ ap (λ (o : Option Mon). stepMon o k i w) r) refl
-    known (some m) r l = fit m r l (fits m k) refl
-
-    lent : (b : Bool) → isLent t k ≡ b → Case t k s ws (orRefuse b 1 (k .memory) (runMon (ruleMon t) t k s ws))
-    lent true l = known (ruleMon t) refl l
-    lent false l = stops 1 (λ i w. ap (λ (b : Bool). one.orRefuse b 1 (k .memory) (stepMon (ruleMon t) k i w)) l) refl
+    go : Went t k (inTime s ws) (λ m. manySteps t k s ws) (runCall t k s ws) → Case t k s ws (runCall t k s ws)
+    go (calling.stops n e q) = stops (suc n) (λ i w. refused-called t k (ltb i 9223372036854775808) (λ m. accept m (k .memory) i w) (suc n) e (λ z. omega arith)) q
+    go (calling.late m a d h q) = late m a d h q
+    go (calling.goes m a d h q) = goes m a d h q
 
 module _ (t : LentTables) (k : LentMonitor) (s : ℕ) (ws : List ℕ) where
-  abbrev run : Running
+  abbrev run : Effect (Option ℕ)
   run = runCall t k s ws
 
-  answer-is : (c : Running) → run ≡ c → run .answer ≡ c .answer
-  answer-is c e = ap (λ (x : Running). x .answer) e
+  answer-is : (c : Effect (Option ℕ)) → run ≡ c → run .answer ≡ c .answer
+  answer-is c e = ap (λ (x : Effect (Option ℕ)). x .answer) e
 
-  pub taken-is : Case t k s ws run → Taken run → run ≡ manySteps t k s ws
+  pub taken-is : Case t k s ws run → RunTaken run → run ≡ manySteps t k s ws
   taken-is (stops n f e) h = absurd (h n (answer-is _ e))
   taken-is (late m a d i e) h = absurd (h 24 (answer-is _ e))
   taken-is (goes m a d i e) h = e
 
-  pub taken-accepts : Case t k s ws run → Taken run → Each Accepts (answersOf t k s ws)
+  pub taken-accepts : Case t k s ws run → RunTaken run → Each Accepts (answersOf t k s ws)
   taken-accepts (stops n f e) h = absurd (h n (answer-is _ e))
   taken-accepts (late m a d i e) h = absurd (h 24 (answer-is _ e))
   taken-accepts (goes m a d i e) h = all-accept t m a ws k s d i
 
-  pub goes-taken : run ≡ manySteps t k s ws → Taken run
+  pub goes-taken : run ≡ manySteps t k s ws → RunTaken run
   goes-taken e n h =
-      let p : run .answer ≡ given (firstReport s (answersOf t k s ws)) = answer-is _ e in
+      let p : run .answer ≡ given (reportAmong s (answersOf t k s ws)) = answer-is _ e in
       let z : _≡_ {A = ℕ} 0 1 = cc in
       omega arith
 
   pub untouched : Case t k s ws run → (n : ℕ) → run .answer ≡ refused n → run .memory ≡ k .memory
-  untouched (stops m f e) n h = ap (λ (c : Running). c .memory) e
-  untouched (late m a d i e) n h = ap (λ (c : Running). c .memory) e
+  untouched (stops m f e) n h = ap (λ (c : Effect (Option ℕ)). c .memory) e
+  untouched (late m a d i e) n h = ap (λ (c : Effect (Option ℕ)). c .memory) e
   untouched (goes m a d i e) n h = absurd (goes-taken e n h)
 
   pub at-most-once : Case t k s ws run → (i j : ℕ) → ReportsAt (answersOf t k s ws) i → ReportsAt (answersOf t k s ws) j → i ≡ j
@@ -279,9 +263,9 @@ module _ (t : LentTables) (k : LentMonitor) (s : ℕ) (ws : List ℕ) where
       let z : f .at-word ≡ i = at-most-once x (f .at-word) i (f .reports) h in
       answer-is _ e ∙ ap given (q ∙ ap some (f .step-is ∙ ap (s +_) z))
 
-  pub reported : Case t k s ws run → (i : ℕ) → (run .answer ≡ given (some (s + i))) ↔ (Taken run × ReportsAt (answersOf t k s ws) i)
+  pub reported : Case t k s ws run → (i : ℕ) → (run .answer ≡ given (some (s + i))) ↔ (RunTaken run × ReportsAt (answersOf t k s ws) i)
   reported x i = (
-    λ h. let g : Taken run = λ n z. let y : _≡_ {A = ℕ} 0 1 = cc in omega arith in (g, reported-by (taken-is x g) x i h),
+    λ h. let g : RunTaken run = λ n z. let y : _≡_ {A = ℕ} 0 1 = cc in omega arith in (g, reported-by (taken-is x g) x i h),
     λ (g, h). reports-by (taken-is x g) x i h,
   )
 
@@ -295,13 +279,13 @@ module _ (t : LentTables) (k : LentMonitor) (s w : ℕ) (ws : List ℕ) where
 
   pub refused-where : Case t k s (w ∷ ws) (runCall t k s (w ∷ ws)) → (n : ℕ) → (runCall t k s (w ∷ ws) .answer ≡ refused n) ↔ Lowest n vs
   refused-where (stops a f e) n =
-      let r : runCall t k s (w ∷ ws) .answer ≡ refused a = ap (λ (c : Running). c .answer) e in
+      let r : runCall t k s (w ∷ ws) .answer ≡ refused a = ap (λ (c : Effect (Option ℕ)). c .answer) e in
       let g = all-refused t k a f (w ∷ ws) s in (
         λ h. let z : a ≡ n = cc in subst (λ (b : ℕ). Lowest b vs) z (lowest-all a g),
         λ l. let (v, p, q) = meet {P = λ v. v ≡ refused n} {Q = λ v. v ≡ refused a} vs (l .given) g in let z : a ≡ n = cc in r ∙ ap refused z,
       )
   refused-where (late m a d i e) n =
-      let r : runCall t k s (w ∷ ws) .answer ≡ refused 24 = ap (λ (c : Running). c .answer) e in
+      let r : runCall t k s (w ∷ ws) .answer ≡ refused 24 = ap (λ (c : Effect (Option ℕ)). c .answer) e in
       let g = each-late t m a (w ∷ ws) k s d in (
         λ h. let z : 24 ≡ n = cc in subst (λ (b : ℕ). Lowest b vs) z (record { given = some-late t m a (w ∷ ws) k s d i; least = each-map (λ v x b q. let y = x b q in omega arith) vs g }),
         λ l. let (v, p, q) = meet {P = λ v. v ≡ refused n} {Q = λ v. (b : ℕ) → v ≡ refused b → b ≡ 24} vs (l .given) g in r ∙ ap refused (sym (q n p)),
@@ -314,11 +298,11 @@ module _ (t : LentTables) (k : LentMonitor) (s w : ℕ) (ws : List ℕ) where
 
   pub refused-first : Case t k s (w ∷ ws) (runCall t k s (w ∷ ws)) → (n : ℕ) → runCall t k s (w ∷ ws) .answer ≡ refused n → (stepCall t k s w .answer ≡ refused n) ⊎ (n ≡ 24)
   refused-first (stops a f e) n h =
-      let r : runCall t k s (w ∷ ws) .answer ≡ refused a = ap (λ (c : Running). c .answer) e in
+      let r : runCall t k s (w ∷ ws) .answer ≡ refused a = ap (λ (c : Effect (Option ℕ)). c .answer) e in
       let z : a ≡ n = cc in
-      inl (ap (λ (c : Stepping). c .answer) (f s w) ∙ ap refused z)
+      inl (ap (λ (c : Effect Bool). c .answer) (f s w) ∙ ap refused z)
   refused-first (late m a d i e) n h =
-      let r : runCall t k s (w ∷ ws) .answer ≡ refused 24 = ap (λ (c : Running). c .answer) e in
+      let r : runCall t k s (w ∷ ws) .answer ≡ refused 24 = ap (λ (c : Effect (Option ℕ)). c .answer) e in
       inr (cc)
   refused-first (goes m a d i e) n h = absurd (goes-taken t k s (w ∷ ws) e n h)
 
@@ -330,12 +314,8 @@ pub record RunStays (t : LentTables) (k : LentMonitor) (m : Mon) (s : ℕ) (ws :
 pub run-stays : (t : LentTables) (k : LentMonitor) (m : Mon) (s : ℕ) (ws : List ℕ) → HoldsRule t m → Ready k m → s + length ws ≤ 9223372036854775808 → RunStays t k m s ws
 run-stays t k m s ws a d h =
     let e = ready-runs t m a ws k s d h in
-    record { taken = e; again = subst (λ (c : Running). Ready (with k (c .memory)) m) (sym e) (ready-after t m a ws k s d) }
+    record { taken = e; again = subst (λ (c : Effect (Option ℕ)). Ready (with k (c .memory)) m) (sym e) (ready-after t m a ws k s d) }
 
 pub without-words : (t : LentTables) (k : LentMonitor) (s other : ℕ) → runCall t k s [] ≡ runCall t k other []
-unfolding runCall inTime answersOf memoryAfter firstReport
-without-words t k s other = ap (orRefuse (isLent t k) 1 (k .memory)) (go (ruleMon t))
-  where
-    go : (o : Option Mon) → runMon o t k s [] ≡ runMon o t k other []
-    go none = refl
-    go (some m) = refl
+unfolding runCall inTime answersOf memoryAfter reportAmong
+without-words t k s other = refl

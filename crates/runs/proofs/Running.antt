@@ -10,22 +10,20 @@ use lib.Dec.{leb, ltb}
 use lib.ListN.{length, getD, drop}
 use lib.Seq.{drop-cons, drop-length}
 use borrow.Author.Tests.{lt-ltb, le-ltb, ltb-true, lt-leb, le-leb}
-use Rattle.formula.specs.Table.{isSome}
-use Rattle.formula.proofs.Cases.{true-false}
 use Rattle.formula.proofs.Walks.{both-true}
 use Rattle.result.specs.Result.{Result, given, refused}
 use Rattle.monitor.specs.Mon.{Mon}
 use Rattle.stepping.specs.declared.call.Verdict.{Verdict}
 use Rattle.stepping.specs.declared.call.Verdict.the-variants.{Accepted, Refused}
 use Rattle.node_step.specs.Memory.{Memory}
-use Rattle.lent.specs.Lent.{LentTables, LentMonitor, isLent, ruleMon, fits, rowsFit, HoldsRule, Ready, Known}
-use Rattle.lent.proofs.Standings.{fits-by-table, known-ready, known-holds, lent-both}
-use Rattle.stepping.specs.Call.{Stepping, acceptMon, acceptOf, stepCall, Fit}
+use Rattle.lent.specs.Lent.{LentTables, LentMonitor, refusalOf, HoldsRule, Ready, monitorOf}
+use Rattle.stepping.specs.Call.{Effect, acceptMon, acceptOf, stepCall, Answers, Fit}
 use Rattle.stepping.specs.Call as one
+use Rattle.stepping.proofs.Calling.{call-refused, call-late, call-fits, call-goes}
 use Rattle.stepping.proofs.Staying.{Stays, stays-ready}
 use Rattle.runs.specs.declared.RunVerdict.{RunVerdict}
 use Rattle.runs.specs.declared.RunVerdict.the-variants.{Quiet, Reported, Refused as NotRun}
-use Rattle.runs.specs.Run.{resultOf, answersOf, memoryAfter, onReport, firstReport, Running, orRefuse, manySteps, inTime, runMon, runCall, Answers, RunFit, firstOf}
+use Rattle.runs.specs.Run.{resultOf, answersOf, memoryAfter, onReport, reportAmong, manySteps, inTime, runCall, firstVerdict}
 
 -- ---- the steps below 2^63
 pub below-in-time : (s : ℕ) (ws : List ℕ) → s + length ws ≤ 9223372036854775808 → inTime s ws ≡ true
@@ -70,7 +68,7 @@ earliest (given none) x = given x
 earliest (given (some n)) x = given (some n)
 earliest (refused n) x = refused n
 
-first-assoc : (s : ℕ) (v : Verdict) (r : RunVerdict) (x : Option ℕ) → earliest (resultOf r) (onReport (one.resultOf v) (some s) x) ≡ earliest (resultOf (firstOf r (onReport (one.resultOf v) (Reported s) Quiet))) x
+first-assoc : (s : ℕ) (v : Verdict) (r : RunVerdict) (x : Option ℕ) → earliest (resultOf r) (onReport (one.resultOf v) (some s) x) ≡ earliest (resultOf (firstVerdict r (onReport (one.resultOf v) (Reported s) Quiet))) x
 first-assoc s (Accepted true) Quiet x = refl
 first-assoc s (Accepted true) (Reported n) x = refl
 first-assoc s (Accepted true) (NotRun n) x = refl
@@ -95,7 +93,7 @@ pub record SameRoom (a b : Memory) : Type 0 where
 
 module _ (t : LentTables) (size : ℕ) (forms bounds : List ℕ) where
   abbrev pub monOf : Memory → LentMonitor
-  monOf mem = record { size = size; forms = forms; bounds = bounds; memory = mem }
+  monOf mem = monitorOf size forms bounds mem
 
   -- before word i, which is for step `here`: what is still to do leads to the same end
   pub record Along (mem₀ : Memory) (s : ℕ) (ws : List ℕ) (mem : Memory) (r : RunVerdict) (here i : ℕ) : Type 0 where
@@ -105,28 +103,28 @@ module _ (t : LentTables) (size : ℕ) (forms bounds : List ℕ) where
     pub ready : Ready (monOf mem) mon
     pub timely : inTime here (drop i ws) ≡ true
     pub leaves : memoryAfter t (monOf mem) here (drop i ws) ≡ memoryAfter t (monOf mem₀) s ws
-    pub answers : earliest (resultOf r) (firstReport here (answersOf t (monOf mem) here (drop i ws))) ≡ given (firstReport s (answersOf t (monOf mem₀) s ws))
+    pub answers : earliest (resultOf r) (reportAmong here (answersOf t (monOf mem) here (drop i ws))) ≡ given (reportAmong s (answersOf t (monOf mem₀) s ws))
 
   module _ (mem₀ : Memory) (s : ℕ) (ws : List ℕ) where
-    pub along-start : RunFit t (monOf mem₀) s ws → Along mem₀ s ws mem₀ Quiet s 0
+    pub along-start : Fit t (monOf mem₀) (inTime s ws) → Along mem₀ s ws mem₀ Quiet s 0
     along-start d = record {
-      mon = d .known .mon;
+      mon = d .mon;
       bound = omega arith;
-      holds = known-holds t (monOf mem₀) (d .known);
-      ready = known-ready t (monOf mem₀) (d .known) (d .shaped);
-      timely = d .timely;
+      holds = d .holds;
+      ready = d .ready;
+      timely = d .in-time;
       leaves = refl;
       answers = refl;
     }
 
     module _ (mem : Memory) (r : RunVerdict) (here i : ℕ) (d : Along mem₀ s ws mem r here i) where
-      pub along-end : length ws ≤ i → Answers (manySteps t (monOf mem₀) s ws) r mem
-      unfolding memoryAfter answersOf firstReport
+      pub along-end : length ws ≤ i → Answers (manySteps t (monOf mem₀) s ws) (resultOf r) mem
+      unfolding memoryAfter answersOf reportAmong
       along-end h =
           let e : i ≡ length ws = omega arith in
           let z : drop i ws ≡ [] = ap (λ (j : ℕ). drop j ws) e ∙ drop-length ws in
           record {
-            answers = sym (first-quiet r) ∙ sym (ap (λ (l : List ℕ). earliest (resultOf r) (firstReport here (answersOf t (monOf mem) here l))) z) ∙ d .answers;
+            answers = sym (first-quiet r) ∙ sym (ap (λ (l : List ℕ). earliest (resultOf r) (reportAmong here (answersOf t (monOf mem) here l))) z) ∙ d .answers;
             leaves = sym (ap (memoryAfter t (monOf mem) here) z) ∙ d .leaves;
           }
 
@@ -141,10 +139,10 @@ module _ (t : LentTables) (size : ℕ) (forms bounds : List ℕ) where
         pub along-below : here < 9223372036854775808
         along-below = ltb-true here 9223372036854775808 (timely-now .0)
 
-        pub along-fit : Fit t (monOf mem) here
-        along-fit = record { known = record { mon = d .mon; is = d .holds .rule; lent = lent-both t (monOf mem) (d .mon) (d .holds) (d .ready) }; shaped = d .ready .fit; below = along-below }
+        pub along-fit : Fit t (monOf mem) (ltb here 9223372036854775808)
+        along-fit = record { mon = d .mon; holds = d .holds; ready = d .ready; in-time = timely-now .0 }
 
-        module _ (v : Verdict) (mem′ : Memory) (a : one.Answers (acceptOf t (monOf mem) here (getD ws i 0)) v mem′) where
+        module _ (v : Verdict) (mem′ : Memory) (a : Answers (acceptOf t (monOf mem) here (getD ws i 0)) (one.resultOf v) mem′) where
           stays : Stays t (monOf mem) (d .mon) here (getD ws i 0)
           stays = stays-ready t (monOf mem) (d .mon) (d .holds) (d .ready) here (getD ws i 0) along-below
 
@@ -153,13 +151,13 @@ module _ (t : LentTables) (size : ℕ) (forms bounds : List ℕ) where
           same = stays .accepted ∙ sym (ap (λ (o : Option Mon). acceptMon o mem here (getD ws i 0)) (d .holds .rule))
 
           to-memory : stepCall t (monOf mem) here (getD ws i 0) .memory ≡ mem′
-          to-memory = ap (λ (c : Stepping). c .memory) same ∙ sym (a .leaves)
+          to-memory = ap (λ (c : Effect Bool). c .memory) same ∙ sym (a .leaves)
 
           to-answer : stepCall t (monOf mem) here (getD ws i 0) .answer ≡ one.resultOf v
-          to-answer = ap (λ (c : Stepping). c .answer) same ∙ sym (a .answers)
+          to-answer = ap (λ (c : Effect Bool). c .answer) same ∙ sym (a .answers)
 
-          pub along-next : (x r′ : RunVerdict) → x ≡ onReport (one.resultOf v) (Reported here) Quiet → r′ ≡ firstOf r x → Along mem₀ s ws mem′ r′ (here + 1) (i + 1)
-          unfolding memoryAfter answersOf firstReport
+          pub along-next : (x r′ : RunVerdict) → x ≡ onReport (one.resultOf v) (Reported here) Quiet → r′ ≡ firstVerdict r x → Along mem₀ s ws mem′ r′ (here + 1) (i + 1)
+          unfolding memoryAfter answersOf reportAmong
           along-next x r′ p q = record {
             mon = d .mon;
             bound = omega arith;
@@ -171,57 +169,27 @@ module _ (t : LentTables) (size : ℕ) (forms bounds : List ℕ) where
                 ∙ sym (ap (memoryAfter t (monOf mem) here) rest)
                 ∙ d .leaves;
             answers =
-                ap (λ (y : RunVerdict). earliest (resultOf y) (firstReport (here + 1) (answersOf t (monOf mem′) (here + 1) (drop (i + 1) ws)))) (q ∙ ap (firstOf r) p)
-                ∙ sym (first-assoc here v r (firstReport (here + 1) (answersOf t (monOf mem′) (here + 1) (drop (i + 1) ws))))
-                ∙ ap₂ (λ (z : Result Bool) (y : Memory). earliest (resultOf r) (onReport z (some here) (firstReport (here + 1) (answersOf t (monOf y) (here + 1) (drop (i + 1) ws))))) (sym to-answer) (sym to-memory)
-                ∙ sym (ap (λ (l : List ℕ). earliest (resultOf r) (firstReport here (answersOf t (monOf mem) here l))) rest)
+                ap (λ (y : RunVerdict). earliest (resultOf y) (reportAmong (here + 1) (answersOf t (monOf mem′) (here + 1) (drop (i + 1) ws)))) (q ∙ ap (firstVerdict r) p)
+                ∙ sym (first-assoc here v r (reportAmong (here + 1) (answersOf t (monOf mem′) (here + 1) (drop (i + 1) ws))))
+                ∙ ap₂ (λ (z : Result Bool) (y : Memory). earliest (resultOf r) (onReport z (some here) (reportAmong (here + 1) (answersOf t (monOf y) (here + 1) (drop (i + 1) ws))))) (sym to-answer) (sym to-memory)
+                ∙ sym (ap (λ (l : List ℕ). earliest (resultOf r) (reportAmong here (answersOf t (monOf mem) here l))) rest)
                 ∙ d .answers;
           }
 
--- ---- the tests in their order
-module _ (t : LentTables) (k : LentMonitor) (d : Known t k) (s : ℕ) (ws : List ℕ) where
-  by-rule : runMon (ruleMon t) t k s ws ≡ orRefuse (fits (d .mon) k) 2 (k .memory) (orRefuse (inTime s ws) 24 (k .memory) (manySteps t k s ws))
-  by-rule = ap (λ (o : Option Mon). runMon o t k s ws) (d .is)
-
-  refused-by : (b : Bool) (n : ℕ) (c : Running) → b ≡ false → Answers (orRefuse b n (k .memory) c) (NotRun n) (k .memory)
-  refused-by b n c q = subst (λ (x : Bool). Answers (orRefuse x n (k .memory) c) (NotRun n) (k .memory)) (sym q) (record { answers = refl; leaves = refl })
-
-  module _ (b : Bool) (e : b ≡ rowsFit (t .nodes) (t .nfirst) (t .ncount) k) where
-    fits-is : fits (d .mon) k ≡ b
-    fits-is = fits-by-table t k (d .mon) (d .is) ∙ sym e
-
-    pub not-fit : b ≡ false → Answers (runMon (ruleMon t) t k s ws) (NotRun 2) (k .memory)
-    not-fit q = subst (λ (c : Running). Answers c (NotRun 2) (k .memory)) (sym by-rule) (refused-by (fits (d .mon) k) 2 _ (fits-is ∙ q))
-
-    module _ (q : b ≡ true) (c : Bool) (p : c ≡ inTime s ws) where
-      fitting : runMon (ruleMon t) t k s ws ≡ orRefuse c 24 (k .memory) (manySteps t k s ws)
-      fitting = by-rule ∙ ap₂ (λ (x y : Bool). orRefuse x 2 (k .memory) (orRefuse y 24 (k .memory) (manySteps t k s ws))) (fits-is ∙ q) (sym p)
-
-      pub too-late : c ≡ false → Answers (runMon (ruleMon t) t k s ws) (NotRun 24) (k .memory)
-      too-late z = subst (λ (x : Running). Answers x (NotRun 24) (k .memory)) (sym fitting) (refused-by c 24 (manySteps t k s ws) z)
-
-      pub run-fit-here : c ≡ true → RunFit t k s ws
-      run-fit-here z = record { known = d; shaped = fits-is ∙ q; timely = sym p ∙ z }
-
-      pub ran-here : (r : RunVerdict) (mem′ : Memory) → c ≡ true → Answers (manySteps t k s ws) r mem′ → Answers (runMon (ruleMon t) t k s ws) r mem′
-      ran-here r mem′ z a = subst (λ (x : Running). Answers x r mem′) (sym (fitting ∙ ap (λ (y : Bool). orRefuse y 24 (k .memory) (manySteps t k s ws)) z)) a
-
-module _ (t : LentTables) (k : LentMonitor) (s : ℕ) (ws : List ℕ) (b : Bool) (e : b ≡ isLent t k) where
-  pub not-lent : b ≡ false → Answers (runCall t k s ws) (NotRun 1) (k .memory)
+-- ---- the whole run
+module _ (t : LentTables) (k : LentMonitor) (s : ℕ) (ws : List ℕ) (n : ℕ) (e : n ≡ refusalOf t k) where
+  pub run-refused : (n ≡ 0 → ⊥) → Answers (runCall t k s ws) (refused n) (k .memory)
   unfolding runCall
-  not-lent q = subst (λ (x : Bool). Answers (orRefuse x 1 (k .memory) (runMon (ruleMon t) t k s ws)) (NotRun 1) (k .memory)) (sym (sym e ∙ q)) (record { answers = refl; leaves = refl })
+  run-refused h = call-refused t k _ _ n e h
 
-  module _ (q : b ≡ true) (c : Bool) (p : c ≡ isSome (ruleMon t)) where
-    lent-call : runCall t k s ws ≡ runMon (ruleMon t) t k s ws
+  module _ (z : n ≡ 0) (b : Bool) (p : b ≡ inTime s ws) where
+    pub run-late : b ≡ false → Answers (runCall t k s ws) (refused 24) (k .memory)
     unfolding runCall
-    lent-call = ap (λ (x : Bool). orRefuse x 1 (k .memory) (runMon (ruleMon t) t k s ws)) (sym e ∙ q)
+    run-late h = call-late t k _ _ n e z (sym p ∙ h)
 
-    pub not-compiled : c ≡ false → Answers (runCall t k s ws) (NotRun 2) (k .memory)
-    not-compiled z = subst (λ (x : Running). Answers x (NotRun 2) (k .memory)) (sym lent-call) (go (ruleMon t) (sym p ∙ z))
-      where
-        go : (o : Option Mon) → isSome o ≡ false → Answers (runMon o t k s ws) (NotRun 2) (k .memory)
-        go none h = record { answers = refl; leaves = refl }
-        go (some x) h = true-false refl h
+    pub run-fits : b ≡ true → Fit t k (inTime s ws)
+    run-fits h = call-fits t k (inTime s ws) (λ m. manySteps t k s ws) n e z (sym p ∙ h)
 
-    pub call-goes-on : (r : RunVerdict) (mem′ : Memory) → Answers (runMon (ruleMon t) t k s ws) r mem′ → Answers (runCall t k s ws) r mem′
-    call-goes-on r mem′ a = subst (λ (x : Running). Answers x r mem′) (sym lent-call) a
+    pub run-taken : (r : Result (Option ℕ)) (mem′ : Memory) → b ≡ true → Answers (manySteps t k s ws) r mem′ → Answers (runCall t k s ws) r mem′
+    unfolding runCall
+    run-taken r mem′ h a = call-goes t k _ _ n e z (sym p ∙ h) (manySteps t k s ws) (λ m q. refl) r mem′ a

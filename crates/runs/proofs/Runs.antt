@@ -18,15 +18,15 @@ use Rattle.monitor.specs.Mon.{Mon}
 use Rattle.result.specs.Result.{given, refused}
 use Rattle.lent.specs.Lent.{LentTables, LentMonitor, HoldsRule, Ready}
 use Rattle.stepping.specs.Call.{stepCall}
-use Rattle.runs.specs.Run.{answersOf, manySteps, runCall, Taken, Accepts, Each, Lowest, ReportsAt}
+use Rattle.runs.specs.Run.{answersOf, manySteps, runCall, RunTaken, Accepts, Each, Lowest, ReportsAt}
 use Rattle.runs.proofs.Calls as calls
 use Rattle.runs.proofs.Calls.{RunStays, case-of}
 
 module _ (t : LentTables) (k : LentMonitor) (s : ℕ) (ws : List ℕ) where
-  pub is-calls : Taken (runCall t k s ws) → runCall t k s ws ≡ manySteps t k s ws
+  pub is-calls : RunTaken (runCall t k s ws) → runCall t k s ws ≡ manySteps t k s ws
   is-calls h = calls.taken-is t k s ws (case-of t k s ws) h
 
-  pub all-accepted : Taken (runCall t k s ws) → Each Accepts (answersOf t k s ws)
+  pub all-accepted : RunTaken (runCall t k s ws) → Each Accepts (answersOf t k s ws)
   all-accepted h = calls.taken-accepts t k s ws (case-of t k s ws) h
 
   pub refused-untouched : (n : ℕ) → runCall t k s ws .answer ≡ refused n → runCall t k s ws .memory ≡ k .memory
@@ -35,7 +35,7 @@ module _ (t : LentTables) (k : LentMonitor) (s : ℕ) (ws : List ℕ) where
   pub reports-once : (i j : ℕ) → ReportsAt (answersOf t k s ws) i → ReportsAt (answersOf t k s ws) j → i ≡ j
   reports-once i j p q = calls.at-most-once t k s ws (case-of t k s ws) i j p q
 
-  pub reported-iff : (i : ℕ) → (runCall t k s ws .answer ≡ given (some (s + i))) ↔ (Taken (runCall t k s ws) × ReportsAt (answersOf t k s ws) i)
+  pub reported-iff : (i : ℕ) → (runCall t k s ws .answer ≡ given (some (s + i))) ↔ (RunTaken (runCall t k s ws) × ReportsAt (answersOf t k s ws) i)
   reported-iff i = calls.reported t k s ws (case-of t k s ws) i
 
   pub fits-again : (m : Mon) → HoldsRule t m → Ready k m → s + length ws ≤ 9223372036854775808 → RunStays t k m s ws

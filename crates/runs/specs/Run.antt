@@ -2,7 +2,7 @@
 -- the one before left it.
 --     answersOf     the answers of those calls, in order
 --     memoryAfter   the memory that the last of them leaves
---     firstReport   the first step whose call reported
+--     reportAmong   the first step whose call reported, among such answers
 --     runCall       the answer to a run: refused as a whole, or that many calls of `step`
 use mathlib.Core.Bool.{Bool, true, false, _&&_}
 use mathlib.Core.List.{List, [], _∷_}
@@ -12,11 +12,11 @@ use mathlib.Core.Path.{_≡_}
 use Prim.Native.Nat.{ℕ, _+_, _≤_}
 use lib.Dec.{ltb}
 use lib.ListN.{getD}
+use Rattle.terms.specs.Limits.{steps}
 use Rattle.result.specs.Result.{Result, given, refused}
-use Rattle.monitor.specs.Mon.{Mon}
 use Rattle.node_step.specs.Memory.{Memory}
-use Rattle.lent.specs.Lent.{LentTables, LentMonitor, isLent, ruleMon, fits, Known}
-use Rattle.stepping.specs.Call.{stepCall, with}
+use Rattle.lent.specs.Lent.{LentTables, LentMonitor}
+use Rattle.stepping.specs.Call.{Effect, called, stepCall, with}
 use Rattle.runs.specs.declared.RunVerdict.{RunVerdict}
 use Rattle.runs.specs.declared.RunVerdict.the-variants.{Quiet, Reported, Refused as NotRun}
 
@@ -41,60 +41,33 @@ unfoldable pub memoryAfter : LentTables → LentMonitor → ℕ → List ℕ →
 memoryAfter t k s [] = k .memory
 memoryAfter t k s (w ∷ ws) = memoryAfter t (with k (stepCall t k s w .memory)) (s + 1) ws
 
-unfoldable pub firstReport : ℕ → List (Result Bool) → Option ℕ
-firstReport s [] = none
-firstReport s (v ∷ vs) = onReport v (some s) (firstReport (s + 1) vs)
+unfoldable pub reportAmong : ℕ → List (Result Bool) → Option ℕ
+reportAmong s [] = none
+reportAmong s (v ∷ vs) = onReport v (some s) (reportAmong (s + 1) vs)
 
 -- ---- a run
-pub record Running : Type 0 where
-  pub answer : Result (Option ℕ)
-  pub memory : Memory
-
--- nothing is stepped
-abbrev pub refuse : ℕ → Memory → Running
-refuse n mem = record { answer = refused n; memory = mem }
-
-abbrev pub orRefuse : Bool → ℕ → Memory → Running → Running
-orRefuse true n mem c = c
-orRefuse false n mem c = refuse n mem
-
-abbrev pub manySteps : LentTables → LentMonitor → ℕ → List ℕ → Running
-manySteps t k s ws = record { answer = given (firstReport s (answersOf t k s ws)); memory = memoryAfter t k s ws }
+abbrev pub manySteps : LentTables → LentMonitor → ℕ → List ℕ → Effect (Option ℕ)
+manySteps t k s ws = record { answer = given (reportAmong s (answersOf t k s ws)); memory = memoryAfter t k s ws }
 
 -- each step that a word is handed over at is below 2^63
 unfoldable pub inTime : ℕ → List ℕ → Bool
 inTime s [] = true
-inTime s (w ∷ ws) = ltb s 9223372036854775808 && inTime (s + 1) ws
-
-abbrev pub runMon : Option Mon → LentTables → LentMonitor → ℕ → List ℕ → Running
-runMon none t k s ws = refuse 2 (k .memory)
-runMon (some m) t k s ws =
-    orRefuse (fits m k) 2 (k .memory) (orRefuse (inTime s ws) 24 (k .memory) (manySteps t k s ws))
+inTime s (w ∷ ws) = ltb s steps && inTime (s + 1) ws
 
 -- the answer to a run, for whatever is lent: 1, then 2, then 24, else that many calls of `step`
-unfoldable pub runCall : LentTables → LentMonitor → ℕ → List ℕ → Running
-runCall t k s ws = orRefuse (isLent t k) 1 (k .memory) (runMon (ruleMon t) t k s ws)
-
-pub record Answers (c : Running) (r : RunVerdict) (mem : Memory) : Type 0 where
-  pub answers : resultOf r ≡ c .answer
-  pub leaves : mem ≡ c .memory
+unfoldable pub runCall : LentTables → LentMonitor → ℕ → List ℕ → Effect (Option ℕ)
+runCall t k s ws = called t k (inTime s ws) (λ m. manySteps t k s ws)
 
 -- ---- parts
--- the tables hold a compiled rule, the monitor fits it, and no step is late
-pub record RunFit (t : LentTables) (k : LentMonitor) (s : ℕ) (ws : List ℕ) : Type 0 where
-  pub known : Known t k
-  pub shaped : fits (known .mon) k ≡ true
-  pub timely : inTime s ws ≡ true
-
 -- the first of two
-abbrev pub firstOf : RunVerdict → RunVerdict → RunVerdict
-firstOf Quiet r = r
-firstOf (Reported s) r = Reported s
-firstOf (NotRun n) r = NotRun n
+abbrev pub firstVerdict : RunVerdict → RunVerdict → RunVerdict
+firstVerdict Quiet r = r
+firstVerdict (Reported s) r = Reported s
+firstVerdict (NotRun n) r = NotRun n
 
 -- ---- what is said of a run and of a list of answers
-abbrev pub Taken : Running → Type 0
-Taken c = (n : ℕ) → c .answer ≡ refused n → ⊥
+abbrev pub RunTaken : Effect (Option ℕ) → Type 0
+RunTaken c = (n : ℕ) → c .answer ≡ refused n → ⊥
 
 abbrev pub Accepts : Result Bool → Type 0
 Accepts v = (b : Bool) × (v ≡ given b)

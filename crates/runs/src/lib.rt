@@ -1,15 +1,14 @@
 // Many words in one call: what is lent is tested once, then the monitor is stepped in place for each word.
-use lent::room::is_lent;
-use lent::shape::is_fit;
-use monitor::table::is_compiled;
+use lent::refusal::refusal_of;
 use stepping::call::Verdict;
 use stepping::call::step_fit;
 use terms::limit::STEPS;
 ghost use mathlib.Core.Path.{_≡_};
-ghost use Rattle.lent.specs.Lent.{Known, ruleMon, monitorOf, tables};
-ghost use Rattle.stepping.specs.Call.{resultOf};
-ghost use Rattle.runs.specs.Run.{Answers, RunFit, firstOf, inTime, manySteps, onReport, runCall, runMon};
 ghost use Rattle.node_step.specs.Memory.{entries};
+ghost use Rattle.lent.specs.Lent.{monitorOf, tables};
+ghost use Rattle.stepping.specs.Call as Stepping;
+ghost use Rattle.stepping.specs.Call.{Answers, Fit};
+ghost use Rattle.runs.specs.Run.{firstVerdict, inTime, manySteps, onReport, resultOf, runCall};
 
 // No word was reported; or the step of the first that was; or the refusal of the whole run.
 pub enum RunVerdict {
@@ -33,7 +32,7 @@ fn in_time(s: u64, words: &[u64]) -> bool
 
 // The report at s.
 fn report_at(v: Verdict, s: u64) -> RunVerdict
-    ensures { λ r. ⌜ r ≡ onReport (resultOf v) (RunVerdict.Reported s) RunVerdict.Quiet ⌝ }
+    ensures { λ r. ⌜ r ≡ onReport (Stepping.resultOf v) (RunVerdict.Reported s) RunVerdict.Quiet ⌝ }
 {
     let Verdict::Accepted(b) = v else {
         return RunVerdict::Quiet;
@@ -45,8 +44,8 @@ fn report_at(v: Verdict, s: u64) -> RunVerdict
 }
 
 // A later report does not replace an earlier one.
-fn first_of(r: RunVerdict, later: RunVerdict) -> RunVerdict
-    ensures { λ o. ⌜ o ≡ firstOf r later ⌝ }
+fn first_verdict(r: RunVerdict, later: RunVerdict) -> RunVerdict
+    ensures { λ o. ⌜ o ≡ firstVerdict r later ⌝ }
 {
     match r {
         RunVerdict::Quiet => later,
@@ -74,11 +73,14 @@ fn run_fit(
     s: u64,
     words: &[u64],
 ) -> RunVerdict
-    requires { ⌜ RunFit (tables (now ops) (now nums) first count (now nodes) nfirst ncount)
-        (monitorOf size (now forms) (now bounds) (entries (now held) (now remaining) (now failed) (now culprits))) s (now words) ⌝ }
-    ensures { λ r. ⌜ Answers (manySteps (tables (now (ops .entry)) (now (nums .entry)) first count (now (nodes .entry)) nfirst ncount)
+    requires { ⌜ Fit (tables (now ops) (now nums) first count (now nodes) nfirst ncount)
+        (monitorOf size (now forms) (now bounds) (entries (now held) (now remaining) (now failed) (now culprits))) (inTime s (now words)) ⌝ }
+    ensures { λ r. ⌜ Answers
+        (manySteps (tables (now (ops .entry)) (now (nums .entry)) first count (now (nodes .entry)) nfirst ncount)
         (monitorOf size (now (forms .entry)) (now (bounds .entry))
-        (entries (now (held .entry)) (now (remaining .entry)) (now (failed .entry)) (now (culprits .entry)))) s (now (words .entry))) r
+        (entries (now (held .entry)) (now (remaining .entry)) (now (failed .entry)) (now (culprits .entry))))
+        s (now (words .entry)))
+        (resultOf r)
         (entries (now (held .exit)) (now (remaining .exit)) (now (failed .exit)) (now (culprits .exit))) ⌝ }
 {
     let mut r = RunVerdict::Quiet;
@@ -103,15 +105,15 @@ fn run_fit(
             at,
             words[i],
         );
-        r = first_of(r, report_at(v, at));
+        r = first_verdict(r, report_at(v, at));
         at += 1;
         i += 1;
     }
     r
 }
 
-// A run of a monitor over tables that hold a compiled rule.
-fn run_compiled(
+// Steps a lent monitor over all the words, the first of them at step s, over the tables that hold its rule.
+pub fn run(
     ops: &[u8],
     nums: &[u64],
     first: usize,
@@ -129,15 +131,19 @@ fn run_compiled(
     s: u64,
     words: &[u64],
 ) -> RunVerdict
-    requires { ⌜ Known (tables (now ops) (now nums) first count (now nodes) nfirst ncount)
-        (monitorOf size (now forms) (now bounds) (entries (now held) (now remaining) (now failed) (now culprits))) ⌝ }
-    ensures { λ r. ⌜ Answers (runMon (ruleMon (tables (now (ops .entry)) (now (nums .entry)) first count (now (nodes .entry)) nfirst ncount))
-        (tables (now (ops .entry)) (now (nums .entry)) first count (now (nodes .entry)) nfirst ncount)
+    ensures { λ r. ⌜ Answers
+        (runCall (tables (now (ops .entry)) (now (nums .entry)) first count (now (nodes .entry)) nfirst ncount)
         (monitorOf size (now (forms .entry)) (now (bounds .entry))
-        (entries (now (held .entry)) (now (remaining .entry)) (now (failed .entry)) (now (culprits .entry)))) s (now (words .entry))) r
+        (entries (now (held .entry)) (now (remaining .entry)) (now (failed .entry)) (now (culprits .entry))))
+        s (now (words .entry)))
+        (resultOf r)
         (entries (now (held .exit)) (now (remaining .exit)) (now (failed .exit)) (now (culprits .exit))) ⌝ }
 {
-    if is_fit(
+    let refusal = refusal_of(
+        ops,
+        nums,
+        first,
+        count,
         nodes,
         nfirst,
         ncount,
@@ -148,7 +154,8 @@ fn run_compiled(
         remaining,
         failed,
         culprits,
-    ) {
+    );
+    if refusal == 0 {
         if in_time(s, words) {
             return run_fit(
                 ops,
@@ -171,65 +178,5 @@ fn run_compiled(
         }
         return RunVerdict::Refused(24);
     }
-    RunVerdict::Refused(2)
-}
-
-// Steps a lent monitor over all the words, the first of them at step s, over the tables that hold its rule.
-pub fn run(
-    ops: &[u8],
-    nums: &[u64],
-    first: usize,
-    count: usize,
-    nodes: &[u64],
-    nfirst: usize,
-    ncount: usize,
-    size: usize,
-    forms: &[u64],
-    bounds: &[u64],
-    held: &mut [bool],
-    remaining: &mut [u64],
-    failed: &mut [bool],
-    culprits: &mut [i64],
-    s: u64,
-    words: &[u64],
-) -> RunVerdict
-    ensures { λ r. ⌜ Answers (runCall (tables (now (ops .entry)) (now (nums .entry)) first count (now (nodes .entry)) nfirst ncount)
-        (monitorOf size (now (forms .entry)) (now (bounds .entry))
-        (entries (now (held .entry)) (now (remaining .entry)) (now (failed .entry)) (now (culprits .entry)))) s (now (words .entry))) r
-        (entries (now (held .exit)) (now (remaining .exit)) (now (failed .exit)) (now (culprits .exit))) ⌝ }
-{
-    if is_lent(
-        ops,
-        nums,
-        nodes,
-        forms,
-        bounds,
-        held,
-        remaining,
-        failed,
-        culprits,
-    ) {
-        if is_compiled(ops, nums, first, count, nodes, nfirst, ncount) {
-            return run_compiled(
-                ops,
-                nums,
-                first,
-                count,
-                nodes,
-                nfirst,
-                ncount,
-                size,
-                forms,
-                bounds,
-                held,
-                remaining,
-                failed,
-                culprits,
-                s,
-                words,
-            );
-        }
-        return RunVerdict::Refused(2);
-    }
-    RunVerdict::Refused(1)
+    RunVerdict::Refused(refusal)
 }

@@ -4,8 +4,8 @@ use alike::Part;
 use alike::alike;
 use layout::rule::NodeSlot;
 use layout::rule::RuleBits;
+use layout::rule::layout_for;
 use layout::rule::node_slot;
-use layout::rule::rule_layout;
 use libc::STDOUT_FILENO;
 use terms::limit::BOOK_RULES;
 ghost use Prim.Native.Nat.{_≤_, _<_};
@@ -78,8 +78,8 @@ fn show_slots(ops: &[u8], nums: &[u64], nodes: &[u64], a: Part, r: usize) {
 
 // The line of a rule, and those of its nodes.
 fn show_rule(ops: &[u8], nums: &[u64], nodes: &[u64], a: Part, r: usize, start: u64, bits: u64) {
-    match rule_layout(ops, nums, a.first, a.count, nodes, a.nfirst, a.ncount) {
-        RuleBits::Refused(n) => show_refused(b"rule_layout", n),
+    match layout_for(ops, nums, a.first, a.count, nodes, a.nfirst, a.ncount) {
+        RuleBits::Refused(n) => show_refused(b"layout_for", n),
         RuleBits::Bits(own) => {
             put(b"rule");
             show_place(r);

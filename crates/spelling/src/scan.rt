@@ -89,7 +89,7 @@ fn put_formula(out: &mut [u8], at: usize, ops: &[u8], nums: &[u64], i: usize, ow
     requires { ⌜ Pure (now ops) (now nums) i ⌝ }
     ensures { λ r. ⌜ Spelled (now (ops .entry)) (now (nums .entry)) i owing (tape (now (out .entry)) at) (tape (now (out .exit)) r) ⌝ }
 {
-    let walk = formula::signal::pure_at(ops, nums, i);
+    let walk = formula::signal::boolean_over_atoms(ops, nums, i);
     let Walk::Upto(e) = walk else {
         return at;
     };

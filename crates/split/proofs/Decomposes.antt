@@ -22,7 +22,8 @@ use Rattle.liveness.specs.Split.{faults, skeletonOf, obligationsOf, owes}
 use Rattle.split.specs.Held.{entries, skeletonCells, owedCells, Purity, Ends, SplitReady, SplitLaid, Decomposed}
 use Rattle.split.specs.declared.parts.Filled.{Filled}
 use Rattle.split.proofs.Stores.{sets-then, same-length}
-use Rattle.liveness.proofs.Words.{only-not, only-until, faults-two, append-nil-inv, sound-eventually, unless-nil, both-nil}
+use Rattle.formula.proofs.Faults.{append-nil-inv, unless-nil}
+use Rattle.liveness.proofs.Words.{only-not, only-until, faults-two, sound-eventually, both-nil}
 use Rattle.liveness.proofs.Judges.{end-true, end-false}
 use Rattle.split.proofs.Cells.{Joined, joined, entries-most, owes-most, cells-length, owed-length, owed-append}
 
@@ -166,7 +167,8 @@ module _ (ops nums : List ℕ) (i : ℕ) (s s′ : List ℕ) (k : ℕ) (w w′ :
         (record { skeleton = e; owing = refl; ends = refl; entered = refl; counted = omega arith });
   }
 
-  pub decomposed-not : (s₁ : List ℕ) (r : Filled) → 3 ≤ getD ops i 0 → getD ops i 0 < 4 → s₁ ≡ sets s (2 * k) (3 ∷ 0 ∷ []) → Decomposed ops nums (i + 1) s₁ s′ (k + 1) w w′ o r → Decomposed ops nums i s s′ k w w′ o r
+  pub decomposed-not : (s₁ : List ℕ) (r : Filled) → 3 ≤ getD ops i 0 → getD ops i 0 < 4 → s₁ ≡ sets s (2 * k) (3 ∷ 0 ∷ []) → Decomposed ops nums (i + 1) s₁ s′ (k + 1) w w′ o r
+      → Decomposed ops nums i s s′ k w w′ o r
   unfolding skeletonCells skeletonOf obligationsOf entries size faults nodeAt
   decomposed-not s₁ r h n e d = record {
     is = λ f sp z.
@@ -178,7 +180,8 @@ module _ (ops nums : List ℕ) (i : ℕ) (s s′ : List ℕ) (k : ℕ) (w w′ :
         (record { skeleton = sets-then s s₁ s′ (3 ∷ 0 ∷ []) (skeletonCells (skeletonOf x (i + 1) o)) (2 * k) (2 * (k + 1)) e (l .skeleton) (omega arith); owing = l .owing; ends = omega (arith, l .ends); entered = omega (arith, l .entered); counted = l .counted });
   }
 
-  pub decomposed-eventually : (e : ℕ) → 4 ≤ getD ops i 0 → getD ops i 0 < 9 → Ends ops nums (i + 1) e → s′ ≡ sets s (2 * k) (1 ∷ o ∷ []) → w′ ≡ sets w (3 * o) (0 ∷ (i + 1) ∷ 0 ∷ []) → Decomposed ops nums i s s′ k w w′ o (record { end = e; entries = k + 1; owed = o + 1 })
+  pub decomposed-eventually : (e : ℕ) → 4 ≤ getD ops i 0 → getD ops i 0 < 9 → Ends ops nums (i + 1) e → s′ ≡ sets s (2 * k) (1 ∷ o ∷ [])
+      → w′ ≡ sets w (3 * o) (0 ∷ (i + 1) ∷ 0 ∷ []) → Decomposed ops nums i s s′ k w w′ o (record { end = e; entries = k + 1; owed = o + 1 })
   unfolding skeletonCells skeletonOf obligationsOf owedCells entries size nodeAt
   decomposed-eventually e h n d a b = record {
     is = λ f sp z.
@@ -188,7 +191,8 @@ module _ (ops nums : List ℕ) (i : ℕ) (s s′ : List ℕ) (k : ℕ) (w w′ :
         (record { skeleton = a; owing = b; ends = omega (arith, d .is x v); entered = refl; counted = refl });
   }
 
-  pub decomposed-until : (m e : ℕ) → 12 ≤ getD ops i 0 → Ends ops nums (i + 1) m → Ends ops nums m e → s′ ≡ sets s (2 * k) (1 ∷ o ∷ []) → w′ ≡ sets w (3 * o) (1 ∷ (i + 1) ∷ m ∷ []) → Decomposed ops nums i s s′ k w w′ o (record { end = e; entries = k + 1; owed = o + 1 })
+  pub decomposed-until : (m e : ℕ) → 12 ≤ getD ops i 0 → Ends ops nums (i + 1) m → Ends ops nums m e → s′ ≡ sets s (2 * k) (1 ∷ o ∷ []) → w′ ≡ sets w (3 * o) (1 ∷ (i + 1) ∷ m ∷ [])
+      → Decomposed ops nums i s s′ k w w′ o (record { end = e; entries = k + 1; owed = o + 1 })
   unfolding skeletonCells skeletonOf obligationsOf owedCells entries size nodeAt
   decomposed-until m e h d d′ a b = record {
     is = λ f sp z.
@@ -200,7 +204,8 @@ module _ (ops nums : List ℕ) (i : ℕ) (s s′ : List ℕ) (k : ℕ) (w w′ :
         (record { skeleton = a; owing = b ∙ ap (λ (j : ℕ). sets w (3 * o) (1 ∷ (i + 1) ∷ j ∷ [])) n; ends = omega arith; entered = refl; counted = refl });
   }
 
-  pub decomposed-two : (s₁ s₂ w₂ : List ℕ) (a : ℕ) (left r : Filled) → 9 ≤ getD ops i 0 → getD ops i 0 < 12 → a ≡ getD ops i 0 → s₁ ≡ sets s (2 * k) (a ∷ 0 ∷ []) → Decomposed ops nums (i + 1) s₁ s₂ (k + 1) w w₂ o left → Decomposed ops nums (left .end) s₂ s′ (left .entries) w₂ w′ (left .owed) r → Decomposed ops nums i s s′ k w w′ o r
+  pub decomposed-two : (s₁ s₂ w₂ : List ℕ) (a : ℕ) (left r : Filled) → 9 ≤ getD ops i 0 → getD ops i 0 < 12 → a ≡ getD ops i 0 → s₁ ≡ sets s (2 * k) (a ∷ 0 ∷ [])
+      → Decomposed ops nums (i + 1) s₁ s₂ (k + 1) w w₂ o left → Decomposed ops nums (left .end) s₂ s′ (left .entries) w₂ w′ (left .owed) r → Decomposed ops nums i s s′ k w w′ o r
   unfolding size nodeAt
   decomposed-two s₁ s₂ w₂ a left r h n b e d d′ = record {
     is = λ f sp z.

@@ -94,7 +94,8 @@ module _ (ops nums : List ℕ) (first count : ℕ) (a : Bool) (s w : List ℕ) w
                 sym (lived f p ∙ ap (λ (c : Bool). held (property c f first) s w) x)
 
             module _ (x : b ≡ true) (top : Top) (j : Judged ops nums first top) where
-              judged : (f : Formula) → ruleOf ops nums first count ≡ some f → splitting ops nums first count a s w ≡ held (firstOr (faults f) (parts (skeletonOf f first 0) (obligationsOf f first))) s w
+              judged : (f : Formula) → ruleOf ops nums first count ≡ some f
+                  → splitting ops nums first count a s w ≡ held (firstOr (faults f) (parts (skeletonOf f first 0) (obligationsOf f first))) s w
               judged f p = lived f p ∙ ap (λ (c : Bool). held (property c f first) s w) x
 
               pub split-fault : (v : ℕ) → top ≡ Fault v → outcome (Refused v) s w ≡ splitting ops nums first count a s w

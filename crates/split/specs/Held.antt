@@ -1,7 +1,7 @@
 -- How lent memory holds a split, and what decomposing a formula leaves.
---     skeleton    two numbers an entry, in prefix order: 0 and the place of a safety leaf; 1 and the number of an obligation; for a word its
---                 number in a formula table (3 not, 9 and, 10 or, 11 implies) and 0
---     owed        three numbers an obligation: 0 and a place for `eventually`, 1 and two places for `until`
+--     skeleton    two numbers an entry, in prefix order: `safetyEntry` and the place of a safety leaf; `owedEntry` and the number of an
+--                 obligation; for a word its number in a formula table and 0
+--     owed        three numbers an obligation: `eventuallyKind` and a place, or `untilKind` and two places
 --     resultOf    document 01's result of the answer enum
 --     splitting   the result for what is lent, with refusals 1 and 2, and both slices afterwards
 use mathlib.Core.Path.{_≡_}
@@ -13,6 +13,8 @@ use lib.Dec.{leb}
 use lib.ListN.{length}
 use lib.Seq.{sets}
 use Rattle.terms.specs.Limits.{owedRoom, skeletonRoom}
+use Rattle.terms.specs.Ops.{notOp, andOp, orOp, impliesOp}
+use Rattle.terms.specs.Entries.{safetyEntry, owedEntry, eventuallyKind, untilKind}
 use Rattle.result.specs.Result.{Result, given, refused as no-result}
 use Rattle.formula.specs.Tree.{size}
 use Rattle.formula.specs.Spells.{Spells}
@@ -33,16 +35,16 @@ entries (Or s t) = 1 + entries s + entries t
 entries (Implies s t) = 1 + entries s + entries t
 
 unfoldable pub skeletonCells : Skeleton → List ℕ
-skeletonCells (safety i a) = 0 ∷ i ∷ []
-skeletonCells (owed k) = 1 ∷ k ∷ []
-skeletonCells (Not s) = 3 ∷ 0 ∷ skeletonCells s
-skeletonCells (And s t) = 9 ∷ 0 ∷ skeletonCells s ++ skeletonCells t
-skeletonCells (Or s t) = 10 ∷ 0 ∷ skeletonCells s ++ skeletonCells t
-skeletonCells (Implies s t) = 11 ∷ 0 ∷ skeletonCells s ++ skeletonCells t
+skeletonCells (safety i a) = safetyEntry ∷ i ∷ []
+skeletonCells (owed k) = owedEntry ∷ k ∷ []
+skeletonCells (Not s) = notOp ∷ 0 ∷ skeletonCells s
+skeletonCells (And s t) = andOp ∷ 0 ∷ skeletonCells s ++ skeletonCells t
+skeletonCells (Or s t) = orOp ∷ 0 ∷ skeletonCells s ++ skeletonCells t
+skeletonCells (Implies s t) = impliesOp ∷ 0 ∷ skeletonCells s ++ skeletonCells t
 
 abbrev pub obligationCells : Obligation → List ℕ
-obligationCells (E i f) = 0 ∷ i ∷ 0 ∷ []
-obligationCells (U i f j g) = 1 ∷ i ∷ j ∷ []
+obligationCells (E i f) = eventuallyKind ∷ i ∷ 0 ∷ []
+obligationCells (U i f j g) = untilKind ∷ i ∷ j ∷ []
 
 unfoldable pub owedCells : List Obligation → List ℕ
 owedCells [] = []

@@ -27,7 +27,7 @@ fn end_of(ops: &[u8], nums: &[u64], i: usize) -> usize
     requires { ⌜ Purity (now ops) (now nums) i ⌝ }
     ensures { λ r. ⌜ Ends (now (ops .entry)) (now (nums .entry)) i r ⌝ }
 {
-    let walk = formula::signal::pure_at(ops, nums, i);
+    let walk = formula::signal::boolean_over_atoms(ops, nums, i);
     let Walk::Upto(e) = walk else {
         return i;
     };

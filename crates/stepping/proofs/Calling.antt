@@ -1,131 +1,157 @@
--- The step call: its tests in their order, and the step.
+-- A call on a monitor: its tests in their order, and what it does; and the step call.
+--     ready-called    over tables that hold the rule of a ready monitor: 24, else what the call does
+--     went            the three ways that a call goes
 use mathlib.Core.Path.{_≡_, refl, sym, ap, ap₂, subst, _∙_}
 use mathlib.Core.Bool.{Bool, true, false, _&&_}
 use mathlib.Core.Bool as bool
 use mathlib.Core.Option.{Option, none, some}
-use Prim.Native.Nat.{ℕ, _+_, _-_, _≤_, _<_}
+use Prim.Native.Nat.{ℕ, zero, suc, _+_, _-_, _≤_, _<_}
 use native.Mathlib.Omega.{arith}
 use lib.Dec.{eqb, ltb}
 use lib.ListN.{length, getD}
-use borrow.Author.Tests.{lt-ltb, le-ltb}
-use Rattle.formula.specs.Table.{isSome}
-use Rattle.formula.proofs.Cases.{true-false}
+use borrow.Author.Tests.{lt-ltb, le-ltb, ltb-true}
+use Rattle.terms.specs.Choice.{pick}
 use Rattle.formula.proofs.Walks.{both-true}
 use Rattle.monitor.specs.Mon.{Mon, count}
 use Rattle.meaning.specs.State.{step, failed, newlyFailed}
 use Rattle.stepping.specs.declared.walk.NodeOut.{NodeOut}
-use Rattle.stepping.specs.declared.call.Verdict.{Verdict}
-use Rattle.stepping.specs.declared.call.Verdict.the-variants.{Accepted, Refused}
-use Rattle.result.specs.Result.{given}
+use Rattle.result.specs.Result.{Result, given, refused}
 use Rattle.node_step.specs.Memory.{Memory}
 use Rattle.lent.specs.Nodes.{NodesAt}
 use Rattle.stepping.specs.Walk.{readMon, writeMon, Walkable, NodeStepped}
 use Rattle.lent.specs.Shape.{fitsMon}
-use Rattle.lent.specs.Lent.{LentTables, LentMonitor, isLent, ruleMon, fits, rowsFit, Known}
-use Rattle.lent.proofs.Standings.{monitor-room, lent-parts, rule-stood, fits-by-table, rule-inside}
-use Rattle.stepping.specs.Call.{Stepping, orRefuse, accept, stepMon, stepCall, Answers, Fit, acceptMon, acceptOf}
+use Rattle.lent.specs.Lent.{LentTables, LentMonitor, isLent, ruleMon, fits, unfit, refusalOf, HoldsRule, Ready}
+use Rattle.lent.proofs.Standings.{monitor-room, lent-both, rule-stood, rule-inside}
+use Rattle.lent.proofs.Refusals.{not-refused}
+use Rattle.stepping.specs.Call.{Effect, refuse, orRefuse, overRule, called, accept, stepCall, Answers, Fit, acceptMon, acceptOf}
 use Rattle.stepping.proofs.Memories.{failed-read, read-back}
 use Rattle.stepping.proofs.Fitting.{fits-shaped}
 
--- ---- a known monitor
-refused-by : (k : LentMonitor) (b : Bool) (n : ℕ) (c : Stepping) → b ≡ false → Answers (orRefuse b n (k .memory) c) (Refused n) (k .memory)
-refused-by k b n c q = subst (λ (x : Bool). Answers (orRefuse x n (k .memory) c) (Refused n) (k .memory)) (sym q) (record { answers = refl; leaves = refl })
+-- ---- any call
+answers-by : {A : Type 0} {c d : Effect A} {r : Result A} {mem : Memory} → c ≡ d → Answers d r mem → Answers c r mem
+answers-by {r = r} {mem = mem} e a = subst (λ (x : Effect _). Answers x r mem) (sym e) a
 
-module _ (t : LentTables) (k : LentMonitor) (d : Known t k) (s w : ℕ) where
-  by-rule : stepMon (ruleMon t) k s w ≡ stepMon (some (d .mon)) k s w
-  by-rule = ap (λ (o : Option Mon). stepMon o k s w) (d .is)
+refused-by : {A : Type 0} {c : Effect A} {n : ℕ} {mem : Memory} → c ≡ refuse n mem → Answers c (refused n) mem
+refused-by e = answers-by e (record { answers = refl; leaves = refl })
 
-  module _ (b : Bool) (e : b ≡ rowsFit (t .nodes) (t .nfirst) (t .ncount) k) where
-    fits-is : fits (d .mon) k ≡ b
-    fits-is = fits-by-table t k (d .mon) (d .is) ∙ sym e
+module _ {A : Type 0} (t : LentTables) (k : LentMonitor) (timely : Bool) (does : Mon → Effect A) where
+  pub refused-called : (n : ℕ) → refusalOf t k ≡ n → (n ≡ 0 → ⊥) → called t k timely does ≡ refuse n (k .memory)
+  unfolding refusalOf
+  refused-called n e h = lent (isLent t k) (ruleMon t) e
+    where
+      fit : (m : Mon) (b : Bool) → pick {A = ℕ} b 0 2 ≡ n → orRefuse b 2 (k .memory) (orRefuse timely 24 (k .memory) (does m)) ≡ refuse n (k .memory)
+      fit m true q = absurd (h (sym q))
+      fit m false q = ap (λ (i : ℕ). refuse i (k .memory)) q
 
-    pub not-fit : b ≡ false → Answers (stepMon (ruleMon t) k s w) (Refused 2) (k .memory)
-    not-fit q = subst (λ (c : Stepping). Answers c (Refused 2) (k .memory)) (sym by-rule) (refused-by k (fits (d .mon) k) 2 _ (fits-is ∙ q))
+      lent : (b : Bool) (o : Option Mon) → pick b (unfit o k) 1 ≡ n → orRefuse b 1 (k .memory) (overRule o k timely does) ≡ refuse n (k .memory)
+      lent true none q = ap (λ (i : ℕ). refuse i (k .memory)) q
+      lent true (some m) q = fit m (fits m k) q
+      lent false o q = ap (λ (i : ℕ). refuse i (k .memory)) q
 
-    module _ (q : b ≡ true) where
-      shaped-by : stepMon (ruleMon t) k s w ≡ orRefuse (ltb s 9223372036854775808) 24 (k .memory) (accept (d .mon) (k .memory) s w)
-      shaped-by = by-rule ∙ ap (λ (x : Bool). orRefuse x 2 (k .memory) (orRefuse (ltb s 9223372036854775808) 24 (k .memory) (accept (d .mon) (k .memory) s w))) (fits-is ∙ q)
+  pub ready-called : (m : Mon) → HoldsRule t m → Ready k m → called t k timely does ≡ orRefuse timely 24 (k .memory) (does m)
+  ready-called m a d =
+      ap (λ (b : Bool). orRefuse b 1 (k .memory) (overRule (ruleMon t) k timely does)) (lent-both t k m a d)
+      ∙ ap (λ (o : Option Mon). overRule o k timely does) (a .rule)
+      ∙ ap (λ (b : Bool). orRefuse b 2 (k .memory) (orRefuse timely 24 (k .memory) (does m))) (d .fit)
 
-      pub too-late : 9223372036854775808 ≤ s → Answers (stepMon (ruleMon t) k s w) (Refused 24) (k .memory)
-      too-late l = subst (λ (c : Stepping). Answers c (Refused 24) (k .memory)) (sym shaped-by) (refused-by k (ltb s 9223372036854775808) 24 _ (le-ltb s 9223372036854775808 l))
+-- what is lent is refused, or a step is late, or the call does what it does
+pub data Went {A : Type 0} (t : LentTables) (k : LentMonitor) (timely : Bool) (does : Mon → Effect A) (c : Effect A) : Type 0 where
+  stops : (n : ℕ) → refusalOf t k ≡ suc n → c ≡ refuse (suc n) (k .memory) → Went t k timely does c
+  late : (m : Mon) → HoldsRule t m → Ready k m → timely ≡ false → c ≡ refuse 24 (k .memory) → Went t k timely does c
+  goes : (m : Mon) → HoldsRule t m → Ready k m → timely ≡ true → c ≡ does m → Went t k timely does c
 
-      pub fit-here : s < 9223372036854775808 → Fit t k s
-      fit-here l = record { known = d; shaped = fits-is ∙ q; below = l }
+module _ {A : Type 0} (t : LentTables) (k : LentMonitor) (timely : Bool) (does : Mon → Effect A) where
+  pub went : Went t k timely does (called t k timely does)
+  went = go (refusalOf t k) refl
+    where
+      timed : (m : Mon) → HoldsRule t m → Ready k m → (b : Bool) → timely ≡ b → Went t k timely does (called t k timely does)
+      timed m a d true e = goes m a d e (ready-called t k timely does m a d ∙ ap (λ (x : Bool). orRefuse x 24 (k .memory) (does m)) e)
+      timed m a d false e = late m a d e (ready-called t k timely does m a d ∙ ap (λ (x : Bool). orRefuse x 24 (k .memory) (does m)) e)
 
-      pub accepted-here : (r : Verdict) (mem′ : Memory) → s < 9223372036854775808 → Answers (acceptOf t k s w) r mem′ → Answers (stepMon (ruleMon t) k s w) r mem′
-      accepted-here r mem′ l a = subst (λ (c : Stepping). Answers c r mem′) (ap (λ (o : Option Mon). acceptMon o (k .memory) s w) (d .is) ∙ sym (shaped-by ∙ ap (λ (x : Bool). orRefuse x 24 (k .memory) (accept (d .mon) (k .memory) s w)) (lt-ltb s 9223372036854775808 l))) a
+      go : (n : ℕ) → refusalOf t k ≡ n → Went t k timely does (called t k timely does)
+      go zero e = let (m, a, d) = not-refused t k e in timed m a d timely refl
+      go (suc n) e = stops n e (refused-called t k timely does (suc n) e (λ z. omega arith))
+
+  module _ (n : ℕ) (e : n ≡ refusalOf t k) where
+    pub call-refused : (n ≡ 0 → ⊥) → Answers (called t k timely does) (refused n) (k .memory)
+    call-refused h = refused-by (refused-called t k timely does n (sym e) h)
+
+    module _ (z : n ≡ 0) where
+      pub call-fits : timely ≡ true → Fit t k timely
+      call-fits h = let (m, a, d) = not-refused t k (sym e ∙ z) in record { mon = m; holds = a; ready = d; in-time = h }
+
+      pub call-late : timely ≡ false → Answers (called t k timely does) (refused 24) (k .memory)
+      call-late h =
+          let (m, a, d) = not-refused t k (sym e ∙ z) in
+          refused-by (ready-called t k timely does m a d ∙ ap (λ (x : Bool). orRefuse x 24 (k .memory) (does m)) h)
+
+      pub call-goes : timely ≡ true → (c : Effect A) → ((m : Mon) → ruleMon t ≡ some m → does m ≡ c) → (r : Result A) (mem′ : Memory) → Answers c r mem′
+          → Answers (called t k timely does) r mem′
+      call-goes h c f r mem′ a =
+          let (m, b, d) = not-refused t k (sym e ∙ z) in
+          answers-by (ready-called t k timely does m b d ∙ ap (λ (x : Bool). orRefuse x 24 (k .memory) (does m)) h ∙ f m (b .rule)) a
 
 -- ---- the step
-module _ (t : LentTables) (k : LentMonitor) (s : ℕ) (d : Fit t k s) where
+pub fit-first : (t : LentTables) (k : LentMonitor) (timely : Bool) → Fit t k timely → 0 < length (k .memory .failed)
+fit-first t k timely d = omega (arith, monitor-room (k .forms) (k .bounds) (k .memory) (d .ready .room) .inside .failed)
+
+module _ (t : LentTables) (k : LentMonitor) (s : ℕ) (d : Fit t k (ltb s 9223372036854775808)) where
   pub fit-walk : Walkable (t .ops) (t .nums) (t .nodes) (t .nfirst) (k .memory) 0 s
   fit-walk =
-      let o = rule-stood t (d .known .mon) (d .known .is) in
-      let (p, q) = both-true (eqb (k .size) (count (d .known .mon))) (fitsMon (d .known .mon) (k .forms) (k .bounds) (k .memory) 0) (d .shaped) in
+      let o = rule-stood t (d .mon) (d .holds .rule) in
+      let (p, q) = both-true (eqb (k .size) (count (d .mon))) (fitsMon (d .mon) (k .forms) (k .bounds) (k .memory) 0) (d .ready .fit) in
       let z : t .nfirst ≡ t .nfirst + 0 = omega arith in
       record {
-        mon = d .known .mon;
-        stands = subst (λ (i : ℕ). NodesAt (t .ops) (t .nums) (t .nodes) i (d .known .mon)) z (o .stands);
+        mon = d .mon;
+        stands = subst (λ (i : ℕ). NodesAt (t .ops) (t .nums) (t .nodes) i (d .mon)) z (o .stands);
         in-nodes = omega (arith, o .in-nodes, o .counted);
-        inside = rule-inside t k (d .known .mon) (d .known .is) (lent-parts t k (d .known .lent) .1);
-        shaped = fits-shaped (k .forms) (k .bounds) (k .memory) (d .known .mon) 0 q;
-        below = d .below;
+        inside = rule-inside t k (d .mon) (d .holds .rule) (d .ready .room);
+        shaped = fits-shaped (k .forms) (k .bounds) (k .memory) (d .mon) 0 q;
+        below = ltb-true s 9223372036854775808 (d .in-time);
       }
 
-  pub fit-first : 0 < length (k .memory .failed)
-  fit-first = omega (arith, monitor-room (k .forms) (k .bounds) (k .memory) (lent-parts t k (d .known .lent) .1) .inside .failed)
-
   module _ (w : ℕ) (mem′ : Memory) (o : NodeOut) (c : NodeStepped (t .ops) (t .nums) (t .nodes) (t .nfirst) (k .memory) 0 s w mem′ o) where
-    stepped : mem′ ≡ writeMon (d .known .mon) (step (d .known .mon) (readMon (d .known .mon) (k .memory) 0) s w .state) (k .memory) 0
+    stepped : mem′ ≡ writeMon (d .mon) (step (d .mon) (readMon (d .mon) (k .memory) 0) s w .state) (k .memory) 0
     unfolding fit-walk
-    stepped = c .is (d .known .mon) (fit-walk .stands) (fit-walk .shaped) (fit-walk .inside) .2
+    stepped = c .is (d .mon) (fit-walk .stands) (fit-walk .shaped) (fit-walk .inside) .2
 
-    after-failed : getD (mem′ .failed) 0 false ≡ failed (d .known .mon) (step (d .known .mon) (readMon (d .known .mon) (k .memory) 0) s w .state)
+    after-failed : getD (mem′ .failed) 0 false ≡ failed (d .mon) (step (d .mon) (readMon (d .mon) (k .memory) 0) s w .state)
     unfolding fit-walk
     after-failed =
-        let x = step (d .known .mon) (readMon (d .known .mon) (k .memory) 0) s w .state in
-        sym (failed-read (d .known .mon) mem′ 0) ∙ ap (failed (d .known .mon)) (ap (λ (v : Memory). readMon (d .known .mon) v 0) stepped ∙ read-back (d .known .mon) x (k .memory) 0 (fit-walk .inside))
+        let x = step (d .mon) (readMon (d .mon) (k .memory) 0) s w .state in
+        sym (failed-read (d .mon) mem′ 0) ∙ ap (failed (d .mon)) (ap (λ (v : Memory). readMon (d .mon) v 0) stepped ∙ read-back (d .mon) x (k .memory) 0 (fit-walk .inside))
 
-    answers-is : (b : Bool) → b ≡ newlyFailed (d .known .mon) (readMon (d .known .mon) (k .memory) 0) s w → Answers (acceptOf t k s w) (Accepted b) mem′
-    answers-is b e = subst (λ (x : Stepping). Answers x (Accepted b) mem′) (sym (ap (λ (y : Option Mon). acceptMon y (k .memory) s w) (d .known .is))) (record { answers = ap given e; leaves = stepped })
+    answers-is : (b : Bool) → b ≡ newlyFailed (d .mon) (readMon (d .mon) (k .memory) 0) s w → Answers (acceptOf t k s w) (given b) mem′
+    answers-is b e = subst (λ (x : Effect Bool). Answers x (given b) mem′) (sym (ap (λ (y : Option Mon). acceptMon y (k .memory) s w) (d .holds .rule))) (record { answers = ap given e; leaves = stepped })
 
-    pub already-broken : getD (k .memory .failed) 0 false ≡ true → Answers (acceptOf t k s w) (Accepted false) mem′
-    already-broken h = answers-is false (sym (ap (λ (x : Bool). failed (d .known .mon) (step (d .known .mon) (readMon (d .known .mon) (k .memory) 0) s w .state) && bool.not x) (failed-read (d .known .mon) (k .memory) 0 ∙ h) ∙ and-false (failed (d .known .mon) (step (d .known .mon) (readMon (d .known .mon) (k .memory) 0) s w .state))))
+    pub already-broken : getD (k .memory .failed) 0 false ≡ true → Answers (acceptOf t k s w) (given false) mem′
+    already-broken h = answers-is false (sym (ap (λ (x : Bool). failed (d .mon) (step (d .mon) (readMon (d .mon) (k .memory) 0) s w .state) && bool.not x) (failed-read (d .mon) (k .memory) 0 ∙ h) ∙ and-false (failed (d .mon) (step (d .mon) (readMon (d .mon) (k .memory) 0) s w .state))))
       where
         and-false : (x : Bool) → (x && false) ≡ false
         and-false true = refl
         and-false false = refl
 
-    pub newly-broken : getD (k .memory .failed) 0 false ≡ false → Answers (acceptOf t k s w) (Accepted (getD (mem′ .failed) 0 false)) mem′
-    newly-broken h = answers-is (getD (mem′ .failed) 0 false) (after-failed ∙ sym (ap (λ (x : Bool). failed (d .known .mon) (step (d .known .mon) (readMon (d .known .mon) (k .memory) 0) s w .state) && bool.not x) (failed-read (d .known .mon) (k .memory) 0 ∙ h) ∙ and-true (failed (d .known .mon) (step (d .known .mon) (readMon (d .known .mon) (k .memory) 0) s w .state))))
+    pub newly-broken : getD (k .memory .failed) 0 false ≡ false → Answers (acceptOf t k s w) (given (getD (mem′ .failed) 0 false)) mem′
+    newly-broken h = answers-is (getD (mem′ .failed) 0 false) (after-failed ∙ sym (ap (λ (x : Bool). failed (d .mon) (step (d .mon) (readMon (d .mon) (k .memory) 0) s w .state) && bool.not x) (failed-read (d .mon) (k .memory) 0 ∙ h) ∙ and-true (failed (d .mon) (step (d .mon) (readMon (d .mon) (k .memory) 0) s w .state))))
       where
         and-true : (x : Bool) → (x && true) ≡ x
         and-true true = refl
         and-true false = refl
 
--- ---- the whole call
-module _ (t : LentTables) (k : LentMonitor) (s w : ℕ) (b : Bool) (e : b ≡ isLent t k) where
-  pub not-lent : b ≡ false → Answers (stepCall t k s w) (Refused 1) (k .memory)
+-- ---- the step call
+module _ (t : LentTables) (k : LentMonitor) (s w : ℕ) (n : ℕ) (e : n ≡ refusalOf t k) where
+  pub step-refused : (n ≡ 0 → ⊥) → Answers (stepCall t k s w) (refused n) (k .memory)
   unfolding stepCall
-  not-lent q = subst (λ (x : Bool). Answers (orRefuse x 1 (k .memory) (stepMon (ruleMon t) k s w)) (Refused 1) (k .memory)) (sym (sym e ∙ q)) (record { answers = refl; leaves = refl })
+  step-refused h = call-refused t k _ _ n e h
 
-  module _ (q : b ≡ true) (c : Bool) (p : c ≡ isSome (ruleMon t)) where
-    lent-call : stepCall t k s w ≡ stepMon (ruleMon t) k s w
+  module _ (z : n ≡ 0) where
+    pub step-late : 9223372036854775808 ≤ s → Answers (stepCall t k s w) (refused 24) (k .memory)
     unfolding stepCall
-    lent-call = ap (λ (x : Bool). orRefuse x 1 (k .memory) (stepMon (ruleMon t) k s w)) (sym e ∙ q)
+    step-late l = call-late t k _ _ n e z (le-ltb s 9223372036854775808 l)
 
-    pub not-compiled : c ≡ false → Answers (stepCall t k s w) (Refused 2) (k .memory)
-    not-compiled z = subst (λ (x : Stepping). Answers x (Refused 2) (k .memory)) (sym lent-call) (go (ruleMon t) (sym p ∙ z))
-      where
-        go : (o : Option Mon) → isSome o ≡ false → Answers (stepMon o k s w) (Refused 2) (k .memory)
-        go none h = record { answers = refl; leaves = refl }
-        go (some x) h = true-false refl h
+    pub step-fits : s < 9223372036854775808 → Fit t k (ltb s 9223372036854775808)
+    step-fits l = call-fits t k (ltb s 9223372036854775808) (λ m. accept m (k .memory) s w) n e z (lt-ltb s 9223372036854775808 l)
 
-    pub known-here : c ≡ true → Known t k
-    known-here z = go (ruleMon t) refl (sym p ∙ z)
-      where
-        go : (o : Option Mon) → ruleMon t ≡ o → isSome o ≡ true → Known t k
-        go none r h = true-false h refl
-        go (some x) r h = record { mon = x; is = r; lent = sym e ∙ q }
-
-    pub call-goes-on : (r : Verdict) (mem′ : Memory) → Answers (stepMon (ruleMon t) k s w) r mem′ → Answers (stepCall t k s w) r mem′
-    call-goes-on r mem′ a = subst (λ (x : Stepping). Answers x r mem′) (sym lent-call) a
+    pub step-taken : (r : Result Bool) (mem′ : Memory) → s < 9223372036854775808 → Answers (acceptOf t k s w) r mem′ → Answers (stepCall t k s w) r mem′
+    unfolding stepCall
+    step-taken r mem′ l a = call-goes t k _ _ n e z (lt-ltb s 9223372036854775808 l) (acceptOf t k s w) (λ m h. sym (ap (λ (o : Option Mon). acceptMon o (k .memory) s w) h)) r mem′ a

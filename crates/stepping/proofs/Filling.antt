@@ -1,5 +1,5 @@
--- Loops that store a run from the front.
-use mathlib.Core.Path.{_≡_, refl, sym, ap, _∙_}
+-- A fresh monitor: loops that store a run from the front, and the call.
+use mathlib.Core.Path.{_≡_, refl, sym, ap, ap₂, subst, _∙_}
 use mathlib.Core.Bool.{Bool, true, false}
 use mathlib.Core.List.{List, [], _∷_, _++_}
 use mathlib.Core.Option.{Option, none, some}
@@ -9,16 +9,16 @@ use native.Mathlib.Nat.{add-zero, add-suc, suc-add, zero-add}
 use native.Mathlib.Numerals.{add-one}
 use lib.ListN.{length, getD, set, replicate, length-set, length-replicate}
 use lib.Seq.{sets}
-use lib.IntN.{ℤ}
 use Rattle.meaning.specs.Culprit.{minus-one}
 use Rattle.formula.specs.Table.{isSome}
-use Rattle.formula.proofs.Cases.{true-false}
 use Rattle.monitor.specs.Mon.{Mon}
+use Rattle.node_step.specs.declared.state.MonState.{MonState}
+use Rattle.stepping.specs.declared.fresh.Outcome.{Outcome}
 use Rattle.stepping.specs.declared.fresh.Outcome.the-variants.{Made, Refused}
-use Rattle.node_step.specs.Memory.{Memory}
-use Rattle.lent.specs.Lent.{LentTables, lentOf, ruleMon, Known}
-use Rattle.stepping.specs.Fresh.{column, MakeReady, Makes, Making, refuse, makeMon, orShort, making, freshCall}
-use Rattle.lent.proofs.Standings.{known-comparable}
+use Rattle.node_step.specs.Memory.{Memory, Inside, initialEntry, put}
+use Rattle.lent.specs.Lent.{LentTables, lentOf, ruleMon}
+use Rattle.stepping.specs.Fresh.{column, cleared, resultOf, Makes, Making, refuse, makeMon, orShort, freshCall, FreshAnswers}
+use Rattle.lent.proofs.Refusals.{no-rule, some-rule}
 
 sets-append : {A : Type 0} (l : List A) (i : ℕ) (xs ys : List A) → sets (sets l i xs) (i + length xs) ys ≡ sets l i (xs ++ ys)
 sets-append l i [] ys = ap (λ (n : ℕ). sets l n ys) (add-zero i)
@@ -52,7 +52,7 @@ module _ {A : Type 0} (run : ℕ → List A) (l₀ : List A) (n : ℕ) (l : List
   pub stored-in : Stored run l₀ n l k → k < n → k < length l
   stored-in d h = omega (arith, d .inside, d .same)
 
--- ---- one value
+-- ---- cleared entries
 replicate-more : {A : Type 0} (k : ℕ) (v : A) → replicate (k + 1) v ≡ replicate k v ++ (v ∷ [])
 replicate-more k v = ap (λ (j : ℕ). replicate j v) (add-one k) ∙ go k
   where
@@ -60,12 +60,43 @@ replicate-more k v = ap (λ (j : ℕ). replicate j v) (add-one k) ∙ go k
     go zero = refl
     go (suc k) = ap (v ∷_) (go k)
 
-module _ {A : Type 0} (v : A) (l₀ : List A) (n : ℕ) where
-  pub clear-start : n ≤ length l₀ → Stored (λ j. replicate j v) l₀ n l₀ 0
-  clear-start h = record { bound = omega arith; inside = h; same = refl; is = refl }
+-- k of a memory's n entries are cleared
+pub record Clearing (mem₀ : Memory) (n : ℕ) (mem : Memory) (k : ℕ) : Type 0 where
+  pub held : Stored (λ j. replicate j false) (mem₀ .held) n (mem .held) k
+  pub remaining : Stored (λ j. replicate j 0) (mem₀ .remaining) n (mem .remaining) k
+  pub failed : Stored (λ j. replicate j false) (mem₀ .failed) n (mem .failed) k
+  pub culprits : Stored (λ j. replicate j minus-one) (mem₀ .culprits) n (mem .culprits) k
 
-  pub clear-more : (l : List A) (k : ℕ) → Stored (λ j. replicate j v) l₀ n l k → k < n → Stored (λ j. replicate j v) l₀ n (set l k v) (k + 1)
-  clear-more l k d h = stored-more (λ j. replicate j v) l₀ n l k v (length-replicate k v) (replicate-more k v) d h
+module _ (mem₀ : Memory) (n : ℕ) where
+  pub clear-start : Inside mem₀ n → Clearing mem₀ n mem₀ 0
+  clear-start d = record { held = start (d .held); remaining = start (d .remaining); failed = start (d .failed); culprits = start (d .culprits) }
+    where
+      start : {A : Type 0} {v : A} {l : List A} → n ≤ length l → Stored (λ j. replicate j v) l n l 0
+      start h = record { bound = omega arith; inside = h; same = refl; is = refl }
+
+  module _ (mem : Memory) (k : ℕ) (d : Clearing mem₀ n mem k) where
+    pub clear-more : k < n → (e : MonState) (mem′ : Memory) → e ≡ initialEntry → mem′ ≡ put mem k e → Clearing mem₀ n mem′ (k + 1)
+    clear-more h e mem′ p q = subst (λ (x : Memory). Clearing mem₀ n x (k + 1)) (sym (q ∙ ap (put mem k) p))
+        (record { held = more (d .held); remaining = more (d .remaining); failed = more (d .failed); culprits = more (d .culprits) })
+      where
+        more : {A : Type 0} {v : A} {l₀ l : List A} → Stored (λ j. replicate j v) l₀ n l k → Stored (λ j. replicate j v) l₀ n (set l k v) (k + 1)
+        more {v = v} {l₀ = l₀} {l = l} x = stored-more (λ j. replicate j v) l₀ n l k v (length-replicate k v) (replicate-more k v) x h
+
+    pub clear-inside : k < n → Inside mem (k + 1)
+    clear-inside h = record {
+      held = omega (arith, stored-in _ _ _ _ _ (d .held) h);
+      remaining = omega (arith, stored-in _ _ _ _ _ (d .remaining) h);
+      failed = omega (arith, stored-in _ _ _ _ _ (d .failed) h);
+      culprits = omega (arith, stored-in _ _ _ _ _ (d .culprits) h);
+    }
+
+    pub clear-all : n ≤ k → mem ≡ cleared mem₀ n
+    clear-all h = λ i. record {
+      held = stored-all _ _ _ _ _ (d .held) h i;
+      remaining = stored-all _ _ _ _ _ (d .remaining) h i;
+      failed = stored-all _ _ _ _ _ (d .failed) h i;
+      culprits = stored-all _ _ _ _ _ (d .culprits) h i;
+    }
 
 -- ---- a column
 column-suc : (nodes : List ℕ) (col i k : ℕ) → column nodes col i (suc k) ≡ column nodes col i k ++ (getD nodes (7 * (i + k) + col) 0 ∷ [])
@@ -89,47 +120,41 @@ module _ (nodes : List ℕ) (col nfirst : ℕ) (out₀ : List ℕ) (n : ℕ) whe
   unfolding column
   column-start h = record { bound = omega arith; inside = h; same = refl; is = refl }
 
-  pub column-next : (out : List ℕ) (k : ℕ) → Stored (column nodes col nfirst) out₀ n out k → k < n → Stored (column nodes col nfirst) out₀ n (set out k (getD nodes (7 * (nfirst + k) + col) 0)) (k + 1)
+  pub column-next : (out : List ℕ) (k : ℕ) → Stored (column nodes col nfirst) out₀ n out k → k < n
+      → Stored (column nodes col nfirst) out₀ n (set out k (getD nodes (7 * (nfirst + k) + col) 0)) (k + 1)
   column-next out k d h = stored-more (column nodes col nfirst) out₀ n out k (getD nodes (7 * (nfirst + k) + col) 0) (column-length nodes col nfirst k) (column-more nodes col nfirst k) d h
 
 -- ---- the whole monitor
 module _ (nodes : List ℕ) (nfirst ncount : ℕ) (forms bounds : List ℕ) (mem : Memory) where
-  pub made : (forms′ bounds′ : List ℕ) (h : List Bool) (r : List ℕ) (f : List Bool) (c : List ℤ) → forms′ ≡ sets forms 0 (column nodes 0 nfirst ncount) → bounds′ ≡ sets bounds 0 (column nodes 1 nfirst ncount) → h ≡ sets (mem .held) 0 (replicate ncount false) → r ≡ sets (mem .remaining) 0 (replicate ncount 0) → f ≡ sets (mem .failed) 0 (replicate ncount false) → c ≡ sets (mem .culprits) 0 (replicate ncount minus-one) → Makes nodes nfirst ncount forms bounds mem forms′ bounds′ (record { held = h; remaining = r; failed = f; culprits = c })
-  made forms′ bounds′ h r f c p q u v w x = record { forms-are = p; bounds-are = q; memory-is = λ i. record { held = u i; remaining = v i; failed = w i; culprits = x i } }
+  pub made : (forms′ bounds′ : List ℕ) (mem′ : Memory) → forms′ ≡ sets forms 0 (column nodes 0 nfirst ncount)
+      → bounds′ ≡ sets bounds 0 (column nodes 1 nfirst ncount) → mem′ ≡ cleared mem ncount → Makes nodes nfirst ncount forms bounds mem forms′ bounds′ mem′
+  made forms′ bounds′ mem′ p q u = record { forms-are = p; bounds-are = q; memory-is = u }
 
 module _ (t : LentTables) (forms bounds : List ℕ) (mem : Memory) (b : Bool) (e : b ≡ lentOf (t .ops) (t .nums) (t .nodes) forms bounds mem) where
-  pub made-short : b ≡ false → freshCall t forms bounds mem (Refused 1) forms bounds mem
-  unfolding making
+  answered : (r : Outcome) (c : Making) → resultOf r ≡ c .answer → freshCall t forms bounds mem ≡ c → FreshAnswers t forms bounds mem r (c .forms) (c .bounds) (c .memory)
+  answered r c a s = record {
+    answers = a ∙ sym (ap (λ (x : Making). x .answer) s);
+    forms-are = sym (ap (λ (x : Making). x .forms) s);
+    bounds-are = sym (ap (λ (x : Making). x .bounds) s);
+    memory-is = sym (ap (λ (x : Making). x .memory) s);
+  }
+
+  pub made-short : b ≡ false → FreshAnswers t forms bounds mem (Refused 1) forms bounds mem
+  unfolding freshCall
   made-short q =
-      let s : making t forms bounds mem ≡ refuse 1 forms bounds mem = ap (λ (x : Bool). orShort x forms bounds mem (makeMon (ruleMon t) t forms bounds mem)) (sym e ∙ q) in
-      record { answers = sym (ap (λ (x : Making). x .answer) s); forms-are = sym (ap (λ (x : Making). x .forms) s); bounds-are = sym (ap (λ (x : Making). x .bounds) s); memory-is = sym (ap (λ (x : Making). x .memory) s) }
+      answered (Refused 1) (refuse 1 forms bounds mem) refl (ap (λ (x : Bool). orShort x forms bounds mem (makeMon (ruleMon t) t forms bounds mem)) (sym e ∙ q))
 
   module _ (q : b ≡ true) (c : Bool) (p : c ≡ isSome (ruleMon t)) where
-    goes : (o : Option Mon) → ruleMon t ≡ o → making t forms bounds mem ≡ makeMon o t forms bounds mem
-    unfolding making
-    goes o r = ap (λ (x : Bool). orShort x forms bounds mem (makeMon (ruleMon t) t forms bounds mem)) (sym e ∙ q) ∙ ap (λ (x : Option Mon). makeMon x t forms bounds mem) r
+    goes : (o : Option Mon) → ruleMon t ≡ o → freshCall t forms bounds mem ≡ makeMon o t forms bounds mem
+    unfolding freshCall
+    goes o r = ap₂ (λ (x : Bool) (y : Option Mon). orShort x forms bounds mem (makeMon y t forms bounds mem)) (sym e ∙ q) r
 
-    pub made-none : c ≡ false → freshCall t forms bounds mem (Refused 2) forms bounds mem
-    made-none z = go (ruleMon t) refl (sym p ∙ z)
-      where
-        go : (o : Option Mon) → ruleMon t ≡ o → isSome o ≡ false → freshCall t forms bounds mem (Refused 2) forms bounds mem
-        go none r h = let s = goes none r in record { answers = sym (ap (λ (x : Making). x .answer) s); forms-are = sym (ap (λ (x : Making). x .forms) s); bounds-are = sym (ap (λ (x : Making). x .bounds) s); memory-is = sym (ap (λ (x : Making). x .memory) s) }
-        go (some m) r h = true-false refl h
+    pub made-none : c ≡ false → FreshAnswers t forms bounds mem (Refused 2) forms bounds mem
+    made-none z = answered (Refused 2) (refuse 2 forms bounds mem) refl (goes none (no-rule (ruleMon t) (sym p ∙ z)))
 
-    pub make-known : c ≡ true → Known t (record { size = 0; forms = forms; bounds = bounds; memory = mem })
-    make-known z = go (ruleMon t) refl (sym p ∙ z)
-      where
-        go : (o : Option Mon) → ruleMon t ≡ o → isSome o ≡ true → Known t (record { size = 0; forms = forms; bounds = bounds; memory = mem })
-        go none r h = true-false h refl
-        go (some x) r h = record { mon = x; is = r; lent = sym e ∙ q }
-
-    pub make-ready : c ≡ true → MakeReady (t .nodes) (t .nfirst) (t .ncount) forms bounds mem
-    make-ready z =
-        let k = known-comparable t (record { size = 0; forms = forms; bounds = bounds; memory = mem }) (make-known z) in
-        record { rows = k .rows; forms-in = k .forms-in; bounds-in = k .bounds-in; inside = k .inside }
-
-    pub made-all : (forms′ bounds′ : List ℕ) (mem′ : Memory) → c ≡ true → Makes (t .nodes) (t .nfirst) (t .ncount) forms bounds mem forms′ bounds′ mem′ → freshCall t forms bounds mem (Made (t .ncount)) forms′ bounds′ mem′
+    pub made-all : (forms′ bounds′ : List ℕ) (mem′ : Memory) → c ≡ true → Makes (t .nodes) (t .nfirst) (t .ncount) forms bounds mem forms′ bounds′ mem′
+        → FreshAnswers t forms bounds mem (Made (t .ncount)) forms′ bounds′ mem′
     made-all forms′ bounds′ mem′ z a =
-        let k = make-known z in
-        let s = goes (some (k .mon)) (k .is) in
-        record { answers = sym (ap (λ (x : Making). x .answer) s); forms-are = a .forms-are ∙ sym (ap (λ (x : Making). x .forms) s); bounds-are = a .bounds-are ∙ sym (ap (λ (x : Making). x .bounds) s); memory-is = a .memory-is ∙ sym (ap (λ (x : Making). x .memory) s) }
+        let (m, r) = some-rule (ruleMon t) (sym p ∙ z) in
+        let x = answered (Made (t .ncount)) (makeMon (some m) t forms bounds mem) refl (goes (some m) r) in
+        record { answers = x .answers; forms-are = a .forms-are ∙ x .forms-are; bounds-are = a .bounds-are ∙ x .bounds-are; memory-is = a .memory-is ∙ x .memory-is }

@@ -17,7 +17,7 @@ use Rattle.monitor.specs.declared.node.MonNode.the-variants.{And as AndNode, Or
 use Rattle.monitor.specs.Mon.{Check, range-check, delayed-check, obligation, Mon, check, And, Or, count, nodeOf}
 use Rattle.meaning.specs.Culprit.{minus-one}
 use Rattle.meaning.specs.State.{FromMinusOne, WellKept, CheckShaped, WellShaped}
-use Rattle.node_step.specs.declared.state.NodeState.{NodeState}
+use Rattle.node_step.specs.declared.state.MonState.{MonState}
 use Rattle.node_step.specs.Memory.{Memory, get}
 use Rattle.node_step.specs.Check.{obligationOf, readCheck}
 use Rattle.lent.specs.Shape.{isMinusOne, fromMinusOne, windowKept, entryFits, fitsMon}
@@ -41,7 +41,7 @@ from-back (pos n) h = refl
 from-back (negsuc zero) h = refl
 from-back (negsuc (suc n)) h = absurd h
 
-module _ (b : ℕ) (st : NodeState) where
+module _ (b : ℕ) (st : MonState) where
   in-window : (x y : Bool) → st .held ≡ x → st .failed ≡ y → windowKept b st ≡ (bool.not x || (y || (leb 1 (st .remaining) && leb (st .remaining) b)))
   in-window x y p q = ap₂ (λ (u v : Bool). bool.not u || (v || (leb 1 (st .remaining) && leb (st .remaining) b))) p q
 
@@ -64,12 +64,12 @@ module _ (b : ℕ) (st : NodeState) where
           in-window true false p q ∙ ap₂ _&&_ (le-leb 1 (st .remaining) (w .0)) (le-leb (st .remaining) b (w .1))
 
 -- ---- one check's entry
-record FittedCheck (c : Check) (form bound : ℕ) (e : NodeState) : Type 0 where
+record FittedCheck (c : Check) (form bound : ℕ) (e : MonState) : Type 0 where
   own : OwnNode (nodeOf c) form bound
   blameless : BlamelessEntry c e
   kept : CheckShaped c (readCheck c e)
 
-check-fitted : (c : Check) (form bound : ℕ) (e : NodeState) → entryFits (nodeOf c) form bound e ≡ true → FittedCheck c form bound e
+check-fitted : (c : Check) (form bound : ℕ) (e : MonState) → entryFits (nodeOf c) form bound e ≡ true → FittedCheck c form bound e
 unfolding CheckShaped
 check-fitted (range-check p r) form bound e h =
     let (x, y) = both-true (eqb form 0) _ h in
@@ -83,7 +83,7 @@ check-fitted (obligation b p q r) form bound e h =
     let (u, v) = both-true (fromMinusOne (e .culprit)) (windowKept b e) l in
     record { own = (eqb-true form 2 x, eqb-true bound b y); blameless = tt; kept = kept-is b e u v }
 
-check-fits : (c : Check) (form bound : ℕ) (e : NodeState) → FittedCheck c form bound e → entryFits (nodeOf c) form bound e ≡ true
+check-fits : (c : Check) (form bound : ℕ) (e : MonState) → FittedCheck c form bound e → entryFits (nodeOf c) form bound e ≡ true
 unfolding CheckShaped
 check-fits (range-check p r) form bound e h = ap₂ _&&_ (eq-eqb form 0 (h .own)) (ap isMinusOne (h .blameless))
 check-fits (delayed-check p q r) form bound e h = ap₂ _&&_ (eq-eqb form 1 (h .own)) (ap isMinusOne (h .blameless))

@@ -6,7 +6,7 @@ use native.Mathlib.Omega.{arith}
 use lib.IntN.{ℤ}
 use Rattle.monitor.specs.Mon.{Check, range-check, delayed-check, obligation, Mon, check, And, Or, count}
 use Rattle.meaning.specs.State.{State, CheckState, JoinedState, WellShaped, culprit, failed}
-use Rattle.node_step.specs.declared.state.NodeState.{NodeState}
+use Rattle.node_step.specs.declared.state.MonState.{MonState}
 use Rattle.node_step.proofs.Entries.{get-put-same, get-put-other, inside-put, culprit-put, inside-less}
 use Rattle.node_step.specs.Memory.{Memory, get, put, Inside}
 use Rattle.node_step.specs.Check.{readCheck, writeCheck}
@@ -83,7 +83,7 @@ pub shaped-same : (m : Mon) (a b : Memory) (i : ℕ) → SameFrom a b i (count m
 shaped-same m a b i h s = record { blameless = blameless-same m a b i h (s .blameless); kept = subst (WellShaped m) (read-same m a b i h) (s .kept) }
 
 -- what was written is read
-check-back : (c : Check) (st : CheckState c) (e : NodeState) → readCheck c (writeCheck c st e) ≡ st
+check-back : (c : Check) (st : CheckState c) (e : MonState) → readCheck c (writeCheck c st e) ≡ st
 check-back (range-check p r) st e = refl
 check-back (delayed-check p q r) st e = refl
 check-back (obligation b p q r) st e = refl
@@ -127,7 +127,7 @@ read-back (Or m n) st mem i d =
     (read-back n (st .right) (writeMon m (st .left) mem (i + 1)) (i + 1 + count m) (inside-less _ (i + 1 + count m + count n) (i + (1 + count m + count n)) (omega arith) (inside-write m (st .left) mem (i + 1) (i + (1 + count m + count n)) d)))
 
 -- a write changes no culprit of a range or delayed check
-check-blameless : (c : Check) (st : CheckState c) (e : NodeState) → BlamelessEntry c e → BlamelessEntry c (writeCheck c st e)
+check-blameless : (c : Check) (st : CheckState c) (e : MonState) → BlamelessEntry c e → BlamelessEntry c (writeCheck c st e)
 check-blameless (range-check p r) st e h = h
 check-blameless (delayed-check p q r) st e h = h
 check-blameless (obligation b p q r) st e h = tt

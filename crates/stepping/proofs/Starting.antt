@@ -20,10 +20,10 @@ use Rattle.monitor.specs.declared.node.Row.the-variants.{Node, Unknown}
 use Rattle.monitor.specs.Mon.{Check, range-check, delayed-check, obligation, Mon, check, And, Or, count, nodeOf}
 use Rattle.monitor.specs.Table.{rowOf, formAt, cell, rangeFrom, exprFrom}
 use Rattle.meaning.specs.Culprit.{minus-one}
-use Rattle.meaning.specs.State.{WellShaped, fresh}
+use Rattle.meaning.specs.State.{WellShaped, initialState}
 use Rattle.meaning.proofs.Meaning.{fresh-shaped}
-use Rattle.node_step.specs.declared.state.NodeState.{NodeState}
-use Rattle.node_step.specs.Memory.{Memory, get, Inside}
+use Rattle.node_step.specs.declared.state.MonState.{MonState}
+use Rattle.node_step.specs.Memory.{Memory, get, Inside, initialEntry}
 use Rattle.node_step.specs.Check.{readCheck}
 use Rattle.node_step.proofs.Entries.{inside-less}
 use Rattle.lent.specs.Nodes.{NodesAt}
@@ -42,10 +42,7 @@ module _ (mem : Memory) (n : ℕ) (d : Inside mem n) where
       ∙ List·getD-append (replicate n v) _ e k (subst (λ (j : ℕ). k < j) (sym (length-replicate n v)) g)
       ∙ getD-replicate n k v e g
 
-  abbrev pub blank : NodeState
-  blank = record { held = false; remaining = 0; failed = false; culprit = minus-one }
-
-  pub clear-entry : (k : ℕ) → k < n → get (cleared mem n) k ≡ blank
+  pub clear-entry : (k : ℕ) → k < n → get (cleared mem n) k ≡ initialEntry
   clear-entry k h = λ i. record {
     held = front (mem .held) false false k (d .held) h i;
     remaining = front (mem .remaining) 0 0 k (d .remaining) h i;
@@ -53,7 +50,7 @@ module _ (mem : Memory) (n : ℕ) (d : Inside mem n) where
     culprit = front (mem .culprits) minus-one (pos 0) k (d .culprits) h i;
   }
 
-  pub fresh-reads : (m : Mon) (k : ℕ) → k + count m ≤ n → readMon m (cleared mem n) k ≡ fresh m
+  pub fresh-reads : (m : Mon) (k : ℕ) → k + count m ≤ n → readMon m (cleared mem n) k ≡ initialState m
   unfolding readMon count
   fresh-reads (check (range-check p r)) k h = ap (readCheck (range-check p r)) (clear-entry k (omega arith))
   fresh-reads (check (delayed-check p q r)) k h = ap (readCheck (delayed-check p q r)) (clear-entry k (omega arith))
@@ -71,7 +68,7 @@ module _ (mem : Memory) (n : ℕ) (d : Inside mem n) where
     culprit = clear-entry k (omega arith) i .culprit;
   }
 
-  blank-blameless : (c : Check) → BlamelessEntry c blank
+  blank-blameless : (c : Check) → BlamelessEntry c initialEntry
   blank-blameless (range-check p r) = refl
   blank-blameless (delayed-check p q r) = refl
   blank-blameless (obligation b p q r) = tt
@@ -183,7 +180,7 @@ module _ (t : LentTables) (k : LentMonitor) (m : Mon) (a : HoldsRule t m) (h : m
       let (f, g) = both-true (leb 256 (length (k .bounds))) _ e in
       ap₂ _&&_ (longer (k .forms) (column (t .nodes) 0 (t .nfirst) (t .ncount)) c) (ap₂ _&&_ (longer (k .bounds) (column (t .nodes) 1 (t .nfirst) (t .ncount)) f) (room-fresh (k .memory) (t .ncount) g))
 
-  pub fresh-state : readMon m (freshOf t k .memory) 0 ≡ fresh m
+  pub fresh-state : readMon m (freshOf t k .memory) 0 ≡ initialState m
   fresh-state =
       let o = rule-stood t m (a .rule) in
       let r = monitor-room (k .forms) (k .bounds) (k .memory) h in

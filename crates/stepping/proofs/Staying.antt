@@ -4,9 +4,8 @@
 --     refused-leaves     a refused call leaves the monitor
 --     accepted-windows   an accepted call steps each window of the monitor's obligations as crates/meaning says
 use mathlib.Core.Path.{_≡_, refl, sym, ap, subst, _∙_}
-use mathlib.Core.Bool.{Bool, true, false}
-use mathlib.Core.Option.{Option, none, some}
-use Prim.Native.Nat.{ℕ, _+_, _<_}
+use mathlib.Core.Bool.{Bool}
+use Prim.Native.Nat.{ℕ, suc, _+_, _<_}
 use native.Mathlib.Omega.{arith}
 use lib.Dec.{ltb}
 use borrow.Author.Tests.{lt-ltb, ltb-true}
@@ -15,13 +14,14 @@ use Rattle.monitor.specs.Mon.{Mon, check, range-check, delayed-check, obligatio
 use Rattle.meaning.specs.State.{State, WellShaped, step, joinedStep, newlyFailed}
 use Rattle.meaning.proofs.Meaning.{step-shaped, window-ticks, window-closes, window-opens, stays-marked}
 use Rattle.node_step.specs.Memory.{Inside}
-use Rattle.lent.specs.Lent.{LentTables, LentMonitor, isLent, ruleMon, fits, HoldsRule, Ready}
-use Rattle.lent.proofs.Standings.{monitor-room, room-back, lent-parts, lent-both, rule-inside}
+use Rattle.lent.specs.Lent.{LentTables, LentMonitor, HoldsRule, Ready}
+use Rattle.lent.proofs.Standings.{monitor-room, room-back, rule-inside}
 use Rattle.stepping.specs.Walk.{readMon, writeMon}
 use Rattle.stepping.specs.Fitted.{Windows, StepTaken}
-use Rattle.stepping.specs.Call.{Stepping, refuse, orRefuse, accept, stepMon, stepCall, with}
+use Rattle.stepping.specs.Call.{Effect, refuse, orRefuse, accept, stepCall, with}
 use Rattle.stepping.proofs.Memories.{inside-write, read-back, blameless-write}
 use Rattle.stepping.proofs.Fitting.{fits-inv, fits-by}
+use Rattle.stepping.proofs.Calling.{Went, stops, late, goes, ready-called, went}
 
 pub inside-own : (t : LentTables) (k : LentMonitor) (m : Mon) → HoldsRule t m → Ready k m → Inside (k .memory) (0 + count m)
 inside-own t k m a d = rule-inside t k m (a .rule) (d .room)
@@ -48,52 +48,38 @@ pub record Stays (t : LentTables) (k : LentMonitor) (m : Mon) (s w : ℕ) : Type
 module _ (t : LentTables) (k : LentMonitor) (m : Mon) (a : HoldsRule t m) (d : Ready k m) (s w : ℕ) where
   pub ready-call : stepCall t k s w ≡ orRefuse (ltb s 9223372036854775808) 24 (k .memory) (accept m (k .memory) s w)
   unfolding stepCall
-  ready-call =
-      ap (λ (b : Bool). orRefuse b 1 (k .memory) (stepMon (ruleMon t) k s w)) (lent-both t k m a d)
-      ∙ ap (λ (o : Option Mon). stepMon o k s w) (a .rule)
-      ∙ ap (λ (b : Bool). orRefuse b 2 (k .memory) (orRefuse (ltb s 9223372036854775808) 24 (k .memory) (accept m (k .memory) s w))) (d .fit)
+  ready-call = ready-called t k (ltb s 9223372036854775808) (λ n. accept n (k .memory) s w) m a d
 
   pub stays-ready : s < 9223372036854775808 → Stays t k m s w
   stays-ready h =
       let e : stepCall t k s w ≡ accept m (k .memory) s w = ready-call ∙ ap (λ (b : Bool). orRefuse b 24 (k .memory) (accept m (k .memory) s w)) (lt-ltb s 9223372036854775808 h) in
       record {
         accepted = e;
-        again = subst (λ (c : Stepping). Ready (with k (c .memory)) m) (sym e) (ready-written t k m a d (step m (readMon m (k .memory) 0) s w .state) (step-shaped m (readMon m (k .memory) 0) s w (fits-inv m k (d .fit) .1 .kept)));
+        again = subst (λ (c : Effect Bool). Ready (with k (c .memory)) m) (sym e) (ready-written t k m a d (step m (readMon m (k .memory) 0) s w .state) (step-shaped m (readMon m (k .memory) 0) s w (fits-inv m k (d .fit) .1 .kept)));
       }
 
 -- ---- whatever is lent
-pub data Answered (t : LentTables) (k : LentMonitor) (s w : ℕ) (c : Stepping) : Type 0 where
+pub data Answered (t : LentTables) (k : LentMonitor) (s w : ℕ) (c : Effect Bool) : Type 0 where
   no-step : (n : ℕ) → c ≡ refuse n (k .memory) → Answered t k s w c
   steps : (m : Mon) → HoldsRule t m → Ready k m → s < 9223372036854775808 → c ≡ accept m (k .memory) s w → Answered t k s w c
 
 module _ (t : LentTables) (k : LentMonitor) (s w : ℕ) where
   pub answered : Answered t k s w (stepCall t k s w)
   unfolding stepCall
-  answered = lent (isLent t k) refl
+  answered = go (went t k (ltb s 9223372036854775808) (λ m. accept m (k .memory) s w))
     where
-      late : (m : Mon) → HoldsRule t m → Ready k m → (b : Bool) → ltb s 9223372036854775808 ≡ b → Answered t k s w (orRefuse b 24 (k .memory) (accept m (k .memory) s w))
-      late m a d true e = steps m a d (ltb-true s 9223372036854775808 e) refl
-      late m a d false e = no-step 24 refl
-
-      fit : (m : Mon) → ruleMon t ≡ some m → isLent t k ≡ true → (b : Bool) → fits m k ≡ b → Answered t k s w (orRefuse b 2 (k .memory) (orRefuse (ltb s 9223372036854775808) 24 (k .memory) (accept m (k .memory) s w)))
-      fit m r l true e = let (x, y) = lent-parts t k l in late m (record { rule = r; room = x }) (record { fit = e; room = y }) (ltb s 9223372036854775808) refl
-      fit m r l false e = no-step 2 refl
-
-      known : (o : Option Mon) → ruleMon t ≡ o → isLent t k ≡ true → Answered t k s w (stepMon o k s w)
-      known none r l = no-step 2 refl
-      known (some m) r l = fit m r l (fits m k) refl
-
-      lent : (b : Bool) → isLent t k ≡ b → Answered t k s w (orRefuse b 1 (k .memory) (stepMon (ruleMon t) k s w))
-      lent true l = known (ruleMon t) refl l
-      lent false l = no-step 1 refl
+      go : Went t k (ltb s 9223372036854775808) (λ m. accept m (k .memory) s w) (stepCall t k s w) → Answered t k s w (stepCall t k s w)
+      go (stops n e q) = no-step (suc n) q
+      go (late m a d h q) = no-step 24 q
+      go (goes m a d h q) = steps m a d (ltb-true s 9223372036854775808 h) q
 
   pub refused-leaves : (n : ℕ) → stepCall t k s w .answer ≡ refused n → stepCall t k s w .memory ≡ k .memory
   refused-leaves n q = go answered
     where
       go : Answered t k s w (stepCall t k s w) → stepCall t k s w .memory ≡ k .memory
-      go (no-step i e) = ap (λ (c : Stepping). c .memory) e
+      go (no-step i e) = ap (λ (c : Effect Bool). c .memory) e
       go (steps m a d h e) =
-          let p : stepCall t k s w .answer ≡ given (newlyFailed m (readMon m (k .memory) 0) s w) = ap (λ (c : Stepping). c .answer) e in
+          let p : stepCall t k s w .answer ≡ given (newlyFailed m (readMon m (k .memory) 0) s w) = ap (λ (c : Effect Bool). c .answer) e in
           let z : _≡_ {A = ℕ} 0 1 = cc in
           absurd (omega arith)
 
@@ -116,14 +102,14 @@ accepted-windows t k s w broken q = go (answered t k s w)
   where
     go : Answered t k s w (stepCall t k s w) → StepTaken t k s w broken
     go (no-step n e) =
-        let p : stepCall t k s w .answer ≡ refused n = ap (λ (c : Stepping). c .answer) e in
+        let p : stepCall t k s w .answer ≡ refused n = ap (λ (c : Effect Bool). c .answer) e in
         let z : _≡_ {A = ℕ} 0 1 = cc in
         absurd (omega arith)
     go (steps m a d h e) =
         let st = readMon m (k .memory) 0 in
         let g : WellShaped m st = fits-inv m k (d .fit) .1 .kept in
-        let r : readMon m (stepCall t k s w .memory) 0 ≡ step m st s w .state = ap (λ (c : Stepping). readMon m (c .memory) 0) e ∙ read-back m (step m st s w .state) (k .memory) 0 (inside-own t k m a d) in
-        let p : stepCall t k s w .answer ≡ given (newlyFailed m st s w) = ap (λ (c : Stepping). c .answer) e in
+        let r : readMon m (stepCall t k s w .memory) 0 ≡ step m st s w .state = ap (λ (c : Effect Bool). readMon m (c .memory) 0) e ∙ read-back m (step m st s w .state) (k .memory) 0 (inside-own t k m a d) in
+        let p : stepCall t k s w .answer ≡ given (newlyFailed m st s w) = ap (λ (c : Effect Bool). c .answer) e in
         record {
           mon = m;
           rule = a .rule;

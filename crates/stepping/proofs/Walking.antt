@@ -17,7 +17,7 @@ use Rattle.monitor.specs.declared.node.Row.the-variants.{Node, Unknown}
 use Rattle.monitor.specs.Mon.{Check, range-check, delayed-check, obligation, Mon, check, And, Or, count, nodeOf}
 use Rattle.monitor.specs.Table.{rowOf}
 use Rattle.meaning.specs.State.{State, CheckShaped, WellShaped, joinedStep, step, culprit, failed, least, offered}
-use Rattle.node_step.specs.declared.state.NodeState.{NodeState}
+use Rattle.node_step.specs.declared.state.MonState.{MonState}
 use Rattle.stepping.specs.declared.walk.NodeOut.{NodeOut}
 use Rattle.node_step.specs.declared.joined.Parts.{Parts}
 use Rattle.node_step.specs.declared.joined.Parts.the-variants.{Single, Joined}
@@ -50,7 +50,8 @@ shaped-check c mem k s = s .kept
 
 -- ---- a check
 module _ (ops nums nodes : List ℕ) (nfirst : ℕ) (mem : Memory) (node : MonNode) (k s : ℕ) (d : Leaf ops nums nodes nfirst mem node k s) where
-  pub leaf-stepped : (now : Bool) (w : ℕ) (mem′ : Memory) → CheckStepped ops nums node mem k s w mem′ now → NodeStepped ops nums nodes nfirst mem k s w mem′ (record { now = now; next = k + 1 })
+  pub leaf-stepped : (now : Bool) (w : ℕ) (mem′ : Memory) → CheckStepped ops nums node mem k s w mem′ now
+      → NodeStepped ops nums nodes nfirst mem k s w mem′ (record { now = now; next = k + 1 })
   unfolding NodesAt step readMon writeMon count
   leaf-stepped now w mem′ c = record { is = go }
     where
@@ -260,10 +261,10 @@ module _ (ops nums nodes : List ℕ) (nfirst : ℕ) (mem : Memory) (any : Bool) 
             let i₀ : Inside mem (k + 1 + count m + count n) = inside-less mem (k + 1 + count m + count n) (k + count (joinOf any m n)) (omega arith) i in
             let g : get mem₂ k ≡ get mem k = whole k ∙ write-before n (B .state) W₁ (k + 1 + count m) k (omega arith) ∙ write-before m (A .state) mem (k + 1) k (omega arith) in
             let c₁ : get mem₂ (k + 1) .culprit ≡ culprit m (A .state) =
-            ap (λ (v : NodeState). v .culprit) (whole (k + 1) ∙ write-before n (B .state) W₁ (k + 1 + count m) (k + 1) (omega (arith, count-pos m)))
+            ap (λ (v : MonState). v .culprit) (whole (k + 1) ∙ write-before n (B .state) W₁ (k + 1 + count m) (k + 1) (omega (arith, count-pos m)))
             ∙ culprit-written m (A .state) mem (k + 1) (inside-less mem (k + 1 + count m) (k + 1 + count m + count n) (omega arith) i₀) (p .left-shaped .blameless) in
             let c₂ : get mem₂ (l .next) .culprit ≡ culprit n (B .state) =
-            ap (λ (v : ℕ). get mem₂ v .culprit) y ∙ ap (λ (v : NodeState). v .culprit) (whole (k + 1 + count m))
+            ap (λ (v : ℕ). get mem₂ v .culprit) y ∙ ap (λ (v : MonState). v .culprit) (whole (k + 1 + count m))
             ∙ culprit-written n (B .state) W₁ (k + 1 + count m) (inside-write m (A .state) mem (k + 1) (k + 1 + count m + count n) i₀)
             (blameless-same n mem W₁ (k + 1 + count m) (λ j v v′. sym (write-past m (A .state) mem (k + 1) j v)) (p .right-shaped .blameless)) in
             let eb : b ≡ joinedNow any (A .now) (B .now) = q ∙ ap₂ (joinedNow any) x now₂ in (

@@ -8,6 +8,7 @@ use mathlib.Core.Option.{some}
 use mathlib.Core.Path.{_≡_}
 use Prim.Native.Nat.{ℕ, _+_, _≤_}
 use lib.ListN.{getD}
+use Rattle.terms.specs.Forms.{rangeForm, delayedForm, obligationForm, andForm, orForm}
 use Rattle.monitor.specs.declared.range.AnchorRange.{AnchorRange}
 use Rattle.monitor.specs.declared.node.MonNode.{MonNode}
 use Rattle.monitor.specs.declared.node.MonNode.the-variants.{RangeCheck, DelayedCheck, Obligation, And as AndNode, Or as OrNode}
@@ -23,11 +24,11 @@ use Rattle.stepping.specs.Call.{stepCall}
 
 -- ---- a monitor that fits
 abbrev pub OwnNode : MonNode → ℕ → ℕ → Type 0
-OwnNode (RangeCheck s r) form bound = form ≡ 0
-OwnNode (DelayedCheck s t r) form bound = form ≡ 1
-OwnNode (Obligation b s t r) form bound = (form ≡ 2) × (bound ≡ b)
-OwnNode AndNode form bound = form ≡ 3
-OwnNode OrNode form bound = form ≡ 4
+OwnNode (RangeCheck s r) form bound = form ≡ rangeForm
+OwnNode (DelayedCheck s t r) form bound = form ≡ delayedForm
+OwnNode (Obligation b s t r) form bound = (form ≡ obligationForm) × (bound ≡ b)
+OwnNode AndNode form bound = form ≡ andForm
+OwnNode OrNode form bound = form ≡ orForm
 
 -- the forms of the nodes, and the bounds of the obligations, are the nodes' own
 unfoldable pub OwnForms : Mon → List ℕ → List ℕ → ℕ → Type 0

@@ -6,18 +6,19 @@ use mathlib.Core.Path.{_≡_}
 use Prim.Native.Nat.{ℕ, zero, suc, _+_, _*_, _≤_}
 use lib.ListN.{length, getD, replicate}
 use lib.Seq.{sets}
+use Rattle.terms.specs.Limits.{rowCells}
 use Rattle.result.specs.Result.{Result, given, refused}
 use Rattle.monitor.specs.Mon.{Mon}
 use Rattle.meaning.specs.Culprit.{minus-one}
 use Rattle.stepping.specs.declared.fresh.Outcome.{Outcome}
 use Rattle.stepping.specs.declared.fresh.Outcome.the-variants.{Made, Refused}
-use Rattle.node_step.specs.Memory.{Memory, Inside}
-use Rattle.lent.specs.Lent.{LentTables, LentMonitor, lentOf, ruleMon}
+use Rattle.node_step.specs.Memory.{Memory}
+use Rattle.lent.specs.Lent.{LentTables, LentMonitor, monitorOf, lentOf, ruleMon}
 
 -- the numbers in one column of n rows
 unfoldable pub column : List ℕ → ℕ → ℕ → ℕ → List ℕ
 column nodes col i zero = []
-column nodes col i (suc n) = getD nodes (7 * i + col) 0 ∷ column nodes col (i + 1) n
+column nodes col i (suc n) = getD nodes (rowCells * i + col) 0 ∷ column nodes col (i + 1) n
 
 -- the first n entries hold nothing pending, failed or remembered, and culprits of minus 1
 abbrev pub cleared : Memory → ℕ → Memory
@@ -59,7 +60,7 @@ refuse n forms bounds mem = record { answer = refused n; forms = forms; bounds =
 abbrev pub makeMon : Option Mon → LentTables → List ℕ → List ℕ → Memory → Making
 makeMon none t forms bounds mem = refuse 2 forms bounds mem
 makeMon (some m) t forms bounds mem =
-    let k = freshOf t (record { size = 0; forms = forms; bounds = bounds; memory = mem }) in
+    let k = freshOf t (monitorOf 0 forms bounds mem) in
     record { answer = given (t .ncount); forms = k .forms; bounds = k .bounds; memory = k .memory }
 
 abbrev pub orShort : Bool → List ℕ → List ℕ → Memory → Making → Making
@@ -67,23 +68,18 @@ orShort true forms bounds mem c = c
 orShort false forms bounds mem c = refuse 1 forms bounds mem
 
 -- document 01's answer to making a monitor, for whatever is lent: 1, then 2, else the fresh monitor
-unfoldable pub making : LentTables → List ℕ → List ℕ → Memory → Making
-making t forms bounds mem =
+unfoldable pub freshCall : LentTables → List ℕ → List ℕ → Memory → Making
+freshCall t forms bounds mem =
     orShort (lentOf (t .ops) (t .nums) (t .nodes) forms bounds mem) forms bounds mem (makeMon (ruleMon t) t forms bounds mem)
 
-pub record freshCall (t : LentTables) (forms bounds : List ℕ) (mem : Memory) (r : Outcome) (forms′ bounds′ : List ℕ) (mem′ : Memory) : Type 0 where
-  pub answers : resultOf r ≡ making t forms bounds mem .answer
-  pub forms-are : forms′ ≡ making t forms bounds mem .forms
-  pub bounds-are : bounds′ ≡ making t forms bounds mem .bounds
-  pub memory-is : mem′ ≡ making t forms bounds mem .memory
+-- what it answers and leaves
+pub record FreshAnswers (t : LentTables) (forms bounds : List ℕ) (mem : Memory) (r : Outcome) (forms′ bounds′ : List ℕ) (mem′ : Memory) : Type 0 where
+  pub answers : resultOf r ≡ freshCall t forms bounds mem .answer
+  pub forms-are : forms′ ≡ freshCall t forms bounds mem .forms
+  pub bounds-are : bounds′ ≡ freshCall t forms bounds mem .bounds
+  pub memory-is : mem′ ≡ freshCall t forms bounds mem .memory
 
 -- ---- parts
-pub record MakeReady (nodes : List ℕ) (nfirst ncount : ℕ) (forms bounds : List ℕ) (mem : Memory) : Type 0 where
-  pub rows : 7 * (nfirst + ncount) ≤ length nodes
-  pub forms-in : ncount ≤ length forms
-  pub bounds-in : ncount ≤ length bounds
-  pub inside : Inside mem ncount
-
 pub record Makes (nodes : List ℕ) (nfirst ncount : ℕ) (forms bounds : List ℕ) (mem : Memory) (forms′ bounds′ : List ℕ) (mem′ : Memory) : Type 0 where
   pub forms-are : forms′ ≡ sets forms 0 (column nodes 0 nfirst ncount)
   pub bounds-are : bounds′ ≡ sets bounds 0 (column nodes 1 nfirst ncount)

@@ -7,6 +7,7 @@ use mathlib.Core.List.{List}
 use mathlib.Core.Path.{_≡_}
 use Prim.Native.Nat.{ℕ, _+_, _*_, _≤_, _<_}
 use lib.ListN.{length}
+use Rattle.terms.specs.Limits as limits
 use Rattle.formula.specs.Tree.{Token, leaf-of, two-of, unknown}
 use Rattle.formula.specs.Spells.{nodesAt}
 use Rattle.monitor.specs.declared.node.MonNode.{MonNode}
@@ -17,7 +18,7 @@ use Rattle.monitor.specs.Mon.{Check, range-check, delayed-check, obligation, Mo
 use Rattle.monitor.specs.Table.{rowOf}
 use Rattle.meaning.specs.Culprit.{minus-one}
 use Rattle.meaning.specs.State.{State, Stepped, WellShaped, step}
-use Rattle.node_step.specs.declared.state.NodeState.{NodeState}
+use Rattle.node_step.specs.declared.state.MonState.{MonState}
 use Rattle.node_step.specs.declared.joined.Parts.the-variants.{Single}
 use Rattle.node_step.specs.Memory.{Memory, get, put, Inside}
 use Rattle.node_step.specs.Check.{obligationOf, readCheck, writeCheck, Steppable}
@@ -26,7 +27,7 @@ use Rattle.lent.specs.Nodes.{NodesAt}
 use Rattle.stepping.specs.declared.walk.NodeOut.{NodeOut}
 
 -- minus 1 where no step is to blame: always so for range and delayed checks, whose states have no culprit
-abbrev pub BlamelessEntry : Check → NodeState → Type 0
+abbrev pub BlamelessEntry : Check → MonState → Type 0
 BlamelessEntry (range-check p r) e = e .culprit ≡ minus-one
 BlamelessEntry (delayed-check p q r) e = e .culprit ≡ minus-one
 BlamelessEntry (obligation b p q r) e = Unit {0}
@@ -69,13 +70,15 @@ writeMon (Or m n) st mem i =
 pub record Walkable (ops nums nodes : List ℕ) (nfirst : ℕ) (mem : Memory) (k s : ℕ) : Type 0 where
   pub mon : Mon
   pub stands : NodesAt ops nums nodes (nfirst + k) mon
-  pub in-nodes : 7 * (nfirst + k + count mon) ≤ length nodes
+  pub in-nodes : limits.rowCells * (nfirst + k + count mon) ≤ length nodes
   pub inside : Inside mem (k + count mon)
   pub shaped : ShapedAt mon mem k
-  pub below : s < 9223372036854775808
+  pub below : s < limits.steps
 
 pub record NodeStepped (ops nums nodes : List ℕ) (nfirst : ℕ) (mem : Memory) (k s w : ℕ) (mem′ : Memory) (r : NodeOut) : Type 0 where
-  pub is : (m : Mon) → NodesAt ops nums nodes (nfirst + k) m → ShapedAt m mem k → Inside mem (k + count m) → (r .now ≡ step m (readMon m mem k) s w .now) × (r .next ≡ k + count m) × (mem′ ≡ writeMon m (step m (readMon m mem k) s w .state) mem k)
+  pub is : (m : Mon) → NodesAt ops nums nodes (nfirst + k) m → ShapedAt m mem k → Inside mem (k + count m) →
+      (r .now ≡ step m (readMon m mem k) s w .now) × (r .next ≡ k + count m)
+      × (mem′ ≡ writeMon m (step m (readMon m mem k) s w .state) mem k)
 
 -- ---- parts of the walk
 -- a check at node k
@@ -94,10 +97,10 @@ pub record Pair (ops nums nodes : List ℕ) (nfirst : ℕ) (mem : Memory) (any :
   pub left : Mon
   pub right : Mon
   pub stands : NodesAt ops nums nodes (nfirst + k) (joinOf any left right)
-  pub in-nodes : 7 * (nfirst + k + count (joinOf any left right)) ≤ length nodes
+  pub in-nodes : limits.rowCells * (nfirst + k + count (joinOf any left right)) ≤ length nodes
   pub inside : Inside mem (k + count (joinOf any left right))
   pub shaped : ShapedAt (joinOf any left right) mem k
-  pub below : s < 9223372036854775808
+  pub below : s < limits.steps
 
 -- ---- the measure of the walk
 -- a row as a token of a tree: a check has no parts, a joined node two

@@ -1,13 +1,13 @@
 // The step call: what is lent is tested, then the monitor is stepped in place.
 use crate::walk::step_node;
-use lent::room::is_lent;
-use lent::shape::is_fit;
-use monitor::table::is_compiled;
+use lent::refusal::refusal_of;
 use terms::limit::STEPS;
 ghost use mathlib.Core.Path.{_≡_};
 ghost use Rattle.node_step.specs.Memory.{entries};
-ghost use Rattle.lent.specs.Lent.{Known, ruleMon, monitorOf, tables};
-ghost use Rattle.stepping.specs.Call.{Answers, Fit, acceptOf, stepMon, stepCall};
+ghost use lib.Dec.{ltb};
+ghost use Rattle.terms.specs.Limits.{steps};
+ghost use Rattle.lent.specs.Lent.{monitorOf, tables};
+ghost use Rattle.stepping.specs.Call.{Answers, Fit, acceptOf, resultOf, stepCall};
 
 // Whether a call was taken, and if so whether the rule is newly broken by it; or the refusal.
 pub enum Verdict {
@@ -35,10 +35,13 @@ pub fn step_fit(
     w: u64,
 ) -> Verdict
     requires { ⌜ Fit (tables (now ops) (now nums) first count (now nodes) nfirst ncount)
-        (monitorOf size (now forms) (now bounds) (entries (now held) (now remaining) (now failed) (now culprits))) s ⌝ }
-    ensures { λ r. ⌜ Answers (acceptOf (tables (now (ops .entry)) (now (nums .entry)) first count (now (nodes .entry)) nfirst ncount)
+        (monitorOf size (now forms) (now bounds) (entries (now held) (now remaining) (now failed) (now culprits))) (ltb s steps) ⌝ }
+    ensures { λ r. ⌜ Answers
+        (acceptOf (tables (now (ops .entry)) (now (nums .entry)) first count (now (nodes .entry)) nfirst ncount)
         (monitorOf size (now (forms .entry)) (now (bounds .entry))
-        (entries (now (held .entry)) (now (remaining .entry)) (now (failed .entry)) (now (culprits .entry)))) s w) r
+        (entries (now (held .entry)) (now (remaining .entry)) (now (failed .entry)) (now (culprits .entry))))
+        s w)
+        (resultOf r)
         (entries (now (held .exit)) (now (remaining .exit)) (now (failed .exit)) (now (culprits .exit))) ⌝ }
 {
     let before = failed[0];
@@ -61,8 +64,8 @@ pub fn step_fit(
     Verdict::Accepted(failed[0])
 }
 
-// A step of a monitor over tables that hold a compiled rule.
-fn step_compiled(
+// Steps a lent monitor once, at step s with truths w, over the tables that hold its rule.
+pub fn step(
     ops: &[u8],
     nums: &[u64],
     first: usize,
@@ -80,14 +83,19 @@ fn step_compiled(
     s: u64,
     w: u64,
 ) -> Verdict
-    requires { ⌜ Known (tables (now ops) (now nums) first count (now nodes) nfirst ncount)
-        (monitorOf size (now forms) (now bounds) (entries (now held) (now remaining) (now failed) (now culprits))) ⌝ }
-    ensures { λ r. ⌜ Answers (stepMon (ruleMon (tables (now (ops .entry)) (now (nums .entry)) first count (now (nodes .entry)) nfirst ncount))
+    ensures { λ r. ⌜ Answers
+        (stepCall (tables (now (ops .entry)) (now (nums .entry)) first count (now (nodes .entry)) nfirst ncount)
         (monitorOf size (now (forms .entry)) (now (bounds .entry))
-        (entries (now (held .entry)) (now (remaining .entry)) (now (failed .entry)) (now (culprits .entry)))) s w) r
+        (entries (now (held .entry)) (now (remaining .entry)) (now (failed .entry)) (now (culprits .entry))))
+        s w)
+        (resultOf r)
         (entries (now (held .exit)) (now (remaining .exit)) (now (failed .exit)) (now (culprits .exit))) ⌝ }
 {
-    if is_fit(
+    let refusal = refusal_of(
+        ops,
+        nums,
+        first,
+        count,
         nodes,
         nfirst,
         ncount,
@@ -98,7 +106,8 @@ fn step_compiled(
         remaining,
         failed,
         culprits,
-    ) {
+    );
+    if refusal == 0 {
         if s < STEPS {
             return step_fit(
                 ops,
@@ -121,65 +130,5 @@ fn step_compiled(
         }
         return Verdict::Refused(24);
     }
-    Verdict::Refused(2)
-}
-
-// Steps a lent monitor once, at step s with truths w, over the tables that hold its rule.
-pub fn step(
-    ops: &[u8],
-    nums: &[u64],
-    first: usize,
-    count: usize,
-    nodes: &[u64],
-    nfirst: usize,
-    ncount: usize,
-    size: usize,
-    forms: &[u64],
-    bounds: &[u64],
-    held: &mut [bool],
-    remaining: &mut [u64],
-    failed: &mut [bool],
-    culprits: &mut [i64],
-    s: u64,
-    w: u64,
-) -> Verdict
-    ensures { λ r. ⌜ Answers (stepCall (tables (now (ops .entry)) (now (nums .entry)) first count (now (nodes .entry)) nfirst ncount)
-        (monitorOf size (now (forms .entry)) (now (bounds .entry))
-        (entries (now (held .entry)) (now (remaining .entry)) (now (failed .entry)) (now (culprits .entry)))) s w) r
-        (entries (now (held .exit)) (now (remaining .exit)) (now (failed .exit)) (now (culprits .exit))) ⌝ }
-{
-    if is_lent(
-        ops,
-        nums,
-        nodes,
-        forms,
-        bounds,
-        held,
-        remaining,
-        failed,
-        culprits,
-    ) {
-        if is_compiled(ops, nums, first, count, nodes, nfirst, ncount) {
-            return step_compiled(
-                ops,
-                nums,
-                first,
-                count,
-                nodes,
-                nfirst,
-                ncount,
-                size,
-                forms,
-                bounds,
-                held,
-                remaining,
-                failed,
-                culprits,
-                s,
-                w,
-            );
-        }
-        return Verdict::Refused(2);
-    }
-    Verdict::Refused(1)
+    Verdict::Refused(refusal)
 }

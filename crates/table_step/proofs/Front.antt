@@ -23,7 +23,12 @@ use denote.Builtin.{u8, u64}
 use denote.Index.{row}
 use denote.Slice.{Room}
 use denote.Steps.{nothing}
-use Rattle.node_table.proofs.Arrays.{apart, together}
+use denote.Struct.Laws as LL
+use Rattle.node_table.specs.declared.Columns.{Columns}
+use Rattle.node_table.proofs.Arrays.{A8, A64, val8, val64, apart, together}
+use Rattle.node_table.proofs.Columns as C
+use Rattle.node_table.proofs.Columns.Laws as C′
+use Rattle.table_step.proofs.Own.{os₀, ns₀}
 
 module _ (R : RattleType) (q : Share) where
   -- what lies behind the first n elements
@@ -80,3 +85,10 @@ room8 n xs h e = subst (Room u8) (sym (length-take-le n xs h)) (omega arith, ome
 
 pub room64 : (n : ℕ) (xs : List ℕ) → n ≤ length xs → length xs ≡ 1024 → Room u64 (length (take n xs))
 room64 n xs h e = subst (Room u64) (sym (length-take-le n xs h)) (omega arith, omega arith)
+
+-- ---- the arrays of the columns
+pub is8 : (c : Columns) (v : Val) → Is C.the-row c (v ∷ []) → Is A8 (os₀ c) (val8 (os₀ c) ∷ [])
+is8 c v is = LL.owed C.the-type C′.the-laws c (v ∷ []) is .1 .0
+
+pub is64 : (c : Columns) (v : Val) → Is C.the-row c (v ∷ []) → Is A64 (ns₀ c) (val64 (ns₀ c) ∷ [])
+is64 c v is = LL.owed C.the-type C′.the-laws c (v ∷ []) is .1 .1 .0

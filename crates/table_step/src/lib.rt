@@ -1,6 +1,6 @@
 // Making and stepping a lent monitor over a formula table that is lent as a slice of node structs. The rule's own places are read into columns, and
 // these and the lent monitor are handed on to `in_place::fresh::fresh` or `in_place::step::step`. Callers with plain slices call those themselves.
-use in_place::Monitor;
+use in_place::ReferenceMonitor;
 use in_place::fresh::fresh;
 use in_place::step::step;
 use node_table::FormulaNode;
@@ -9,11 +9,11 @@ use stepping::call::Verdict;
 use stepping::fresh::Outcome;
 ghost use mathlib.Core.Path.{_≡_};
 ghost use Rattle.in_place.specs.InPlace.{freshIn, stepIn};
-ghost use Rattle.table_step.specs.Over.{over};
+ghost use Rattle.table_step.specs.Over.{tablesOver};
 
 // Steps a lent monitor once, at step s with truths w, over the tables that hold its rule.
 pub fn step_table(
-    m: &mut Monitor,
+    m: &mut ReferenceMonitor,
     table: &[FormulaNode],
     first: usize,
     count: usize,
@@ -24,8 +24,8 @@ pub fn step_table(
     w: u64,
 ) -> Verdict
     ensures { λ r. ⌜
-        (r ≡ stepIn (over (now (table .entry)) first count (now (nodes .entry)) nfirst ncount) (now (m .entry)) s w .verdict)
-        × (now (m .exit) ≡ stepIn (over (now (table .entry)) first count (now (nodes .entry)) nfirst ncount) (now (m .entry)) s w .monitor)
+        (r ≡ stepIn (tablesOver (now (table .entry)) first count (now (nodes .entry)) nfirst ncount) (now (m .entry)) s w .verdict)
+        × (now (m .exit) ≡ stepIn (tablesOver (now (table .entry)) first count (now (nodes .entry)) nfirst ncount) (now (m .entry)) s w .monitor)
         ⌝ }
 {
     let c = unpack(table, first, count);
@@ -48,7 +48,7 @@ pub fn step_table(
 
 // Makes a lent monitor the fresh one of the compiled rule that the tables hold.
 pub fn fresh_table(
-    m: &mut Monitor,
+    m: &mut ReferenceMonitor,
     table: &[FormulaNode],
     first: usize,
     count: usize,
@@ -57,8 +57,8 @@ pub fn fresh_table(
     ncount: usize,
 ) -> Outcome
     ensures { λ r. ⌜
-        (r ≡ freshIn (over (now (table .entry)) first count (now (nodes .entry)) nfirst ncount) (now (m .entry)) .outcome)
-        × (now (m .exit) ≡ freshIn (over (now (table .entry)) first count (now (nodes .entry)) nfirst ncount) (now (m .entry)) .monitor)
+        (r ≡ freshIn (tablesOver (now (table .entry)) first count (now (nodes .entry)) nfirst ncount) (now (m .entry)) .outcome)
+        × (now (m .exit) ≡ freshIn (tablesOver (now (table .entry)) first count (now (nodes .entry)) nfirst ncount) (now (m .entry)) .monitor)
         ⌝ }
 {
     let c = unpack(table, first, count);

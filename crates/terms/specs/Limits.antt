@@ -45,7 +45,3 @@ listingBytes = 262144
 -- steps handed to a monitor, and step numbers of a book, lie below this
 abbrev pub steps : ℕ
 steps = 2 ^ 63
-
--- numbers of a book, and words of truths
-abbrev pub wordSize : ℕ
-wordSize = 2 ^ 64

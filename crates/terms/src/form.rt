@@ -8,5 +8,6 @@ pub const OBLIGATION: u64 = 2;
 pub const AND: u64 = 3;
 
 pub const OR: u64 = 4;
+
 // From here on a number is no form's.
 pub const FORMS: u64 = 5;

@@ -2,25 +2,35 @@
 
 // Formula nodes of a book: the places of a formula table.
 pub const BOOK_NODES: usize = 1024;
+
 // Nodes of a rule, of its formula and of its monitor.
 pub const RULE_NODES: usize = 256;
+
 // Rules of a book.
 pub const BOOK_RULES: usize = 64;
+
 // Depth of a formula, the root at depth 1.
 pub const DEEPEST: usize = 64;
+
 // Signals: bits of a word of truths.
 pub const SIGNALS: u64 = 64;
-// Numbers of a row of a compiled node, and of the rows that compiling a rule is lent.
+
+// Numbers of a row of a compiled node.
 pub const ROW_CELLS: usize = 7;
 
+// Numbers of the rows that compiling a rule is lent.
 pub const NODE_CELLS: usize = 1792;
+
 // Numbers that splitting a rule is lent: two an entry of the skeleton, three an obligation.
 pub const SKELETON_ROOM: usize = 512;
 
 pub const OWED_ROOM: usize = 768;
-// Bytes of a book, and of the output that its listing is lent.
+
+// Bytes of a book.
 pub const BOOK_BYTES: usize = 65535;
 
+// Bytes of the output that a listing is lent.
 pub const LISTING_BYTES: usize = 262144;
+
 // Steps handed to a monitor lie below 2^63.
 pub const STEPS: u64 = 9223372036854775808;

@@ -24,5 +24,6 @@ pub const OR: u8 = 10;
 pub const IMPLIES: u8 = 11;
 
 pub const UNTIL: u8 = 12;
+
 // From here on a number is no word's.
 pub const WORDS: u8 = 13;

@@ -1,7 +1,8 @@
--- Every row of the table is kept: by computing it, and the largest bound by the law of its width.
+-- Every row of the table is kept: by computing it, and the largest bound by the law of an obligation's bits.
 use mathlib.Core.Path.{_≡_, refl}
 use mathlib.Core.Bool.{true, _&&_}
 use Prim.Native.Nat.{_+_}
+use native.Mathlib.Omega.{arith}
 use lib.Dec.{eqb}
 use Rattle.formula.specs.Tree.{size}
 use Rattle.formula.specs.Pure.{pure, value}
@@ -10,20 +11,20 @@ use Rattle.meaning.specs.Alarm.{truth}
 use Rattle.meaning.specs.State.{step, checkStep, joinedStep, obligationStep, unfailedStep}
 use Rattle.meaning.specs.Calls.{firstReport}
 use Rattle.meaning.specs.Trips as stepped
-use Rattle.plan.specs.Width.{width, halvings}
+use Rattle.plan.specs.Width.{ceilLog2, halvings}
 use Rattle.plan.specs.Layout.{pieces, total}
-use Rattle.plan.proofs.Widths.{width-largest}
+use Rattle.plan.proofs.Facts.{owing-bits}
 use Rattle.liveness.specs.Split as split
 use Rattle.liveness.specs.Text.{skeletonText}
 use Rattle.trips.specs.Table.{computed, largest, trips, kept, allKept, sameText}
 
 computed-kept : allKept computed ≡ true
-unfolding allKept kept stepped.kept sameText faults consequent node implication pure value truth firstReport step checkStep joinedStep obligationStep unfailedStep size pieces total width halvings split.live split.faults split.skeletonOf split.obligationsOf skeletonText
+unfolding allKept kept stepped.kept sameText faults consequent node implication pure value truth firstReport step checkStep joinedStep obligationStep unfailedStep size pieces total ceilLog2 halvings split.live split.faults split.skeletonOf split.obligationsOf skeletonText
 computed-kept = refl
 
 largest-kept : kept largest ≡ true
 unfolding kept faults node pure pieces total
-largest-kept = λ i. eqb (1 + width-largest i + 0 + 0) 65
+largest-kept = λ i. eqb (owing-bits 18446744073709551615 63 (omega arith) (omega arith) i + 0) 65
 
 pub all-trips : allKept trips ≡ true
 unfolding allKept

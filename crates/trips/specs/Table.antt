@@ -10,7 +10,7 @@ use Rattle.formula.specs.Tree.{leaf, one, two}
 use Rattle.formula.specs.Formula.{Atom, var, input, output, Formula, always, eventually, always-for, within, and, or}
 use Rattle.formula.specs.Text.{Sign, atom, sign}
 use Rattle.monitor.specs.Compile.{ruleFaults, ruleNode}
-use Rattle.meaning.specs.Trips.{Trip, compiles}
+use Rattle.meaning.specs.Trips.{Trip, noFaults}
 use Rattle.meaning.specs.Trips as stepped
 use Rattle.plan.specs.Layout.{bits}
 use Rattle.liveness.specs.Split.{Answer, none, parts, refused, splitOf}
@@ -50,7 +50,7 @@ computed =
     live-refuses (two and (one eventually v0) (one always v1)) 23 ∷
     []
 
--- bound 2^64 - 1: its width is a law of the layout, as halving it counts down from the bound
+-- bound 2^64 - 1: its bits are by a law of the layout, as halving it counts down from the bound
 abbrev pub largest : Row
 largest = takes (one (within 18446744073709551615) v1) 65
 
@@ -107,7 +107,7 @@ refusalIs (refused m) n = eqb m n
 unfoldable pub kept : Row → Bool
 kept (reports t) = stepped.kept t
 kept (refuses f n) = firstIs (ruleFaults f) n
-kept (takes f n) = compiles (ruleFaults f) && eqb (bits (ruleNode f 0)) n
+kept (takes f n) = noFaults (ruleFaults f) && eqb (bits (ruleNode f 0)) n
 kept (splits f t) = splitIs (splitOf false f 0) t
 kept (live-refuses f n) = refusalIs (splitOf false f 0) n
 

@@ -4,8 +4,8 @@ use compiler::Compiled;
 use compiler::compile_formula;
 use layout::rule::NodeSlot;
 use layout::rule::RuleBits;
+use layout::rule::layout_for;
 use layout::rule::node_slot;
-use layout::rule::rule_layout;
 use libc::STDOUT_FILENO;
 use reader::read::Answer;
 use reader::read::read_book;
@@ -220,7 +220,7 @@ fn show_slots(ops: &[u8], nums: &[u64], first: usize, count: usize, nodes: &[u64
 
 // The bits of a compiled rule.
 fn show_bits(ops: &[u8], nums: &[u64], first: usize, count: usize, nodes: &[u64], ncount: usize) {
-    match rule_layout(ops, nums, first, count, nodes, 0, ncount) {
+    match layout_for(ops, nums, first, count, nodes, 0, ncount) {
         RuleBits::Bits(n) => show(b", bits ", n),
         RuleBits::Refused(n) => show(b", bits refused ", n),
     }

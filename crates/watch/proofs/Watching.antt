@@ -23,27 +23,29 @@ use Rattle.stepping.specs.declared.call.Verdict.{Verdict}
 use Rattle.stepping.specs.declared.call.Verdict.the-variants.{Accepted, Refused as NotStepped}
 use Rattle.stepping.specs.declared.fresh.Outcome.{Outcome}
 use Rattle.stepping.specs.declared.fresh.Outcome.the-variants.{Made, Refused as NotMade}
-use Rattle.lent.specs.Lent.{LentTables}
-use Rattle.in_place.specs.declared.Monitor.{Monitor}
+use Rattle.lent.specs.Lent.{LentTables, tables}
+use Rattle.in_place.specs.declared.ReferenceMonitor.{ReferenceMonitor}
 use Rattle.in_place.specs.declared.step.Advanced.{Advanced}
 use Rattle.in_place.specs.declared.fresh.Started.{Started}
-use Rattle.in_place.specs.InPlace.{overLists, stepIn, freshIn}
+use Rattle.in_place.specs.InPlace.{stepIn, freshIn}
 use Rattle.watch.specs.declared.rule.Watched.{Watched}
 use Rattle.watch.specs.declared.rule.Watched.the-variants.{Quiet, Report, Refused}
-use Rattle.watch.specs.Watch.{rootCulprit, onVerdict, onStep, isEnd, watched, blank, onOutcome, compiledWatched, onCompiled, ruleWatched}
+use Rattle.watch.specs.Watch.{rootCulprit, onVerdict, onStep, isEnd, watched, blankMonitor, onOutcome, compiledWatched, onCompiled, ruleWatched}
 
 -- ---- one answer
 pub accepted-report : (b : Bool) (s : ℕ) (c : ℤ) → SFits w64 c → b ≡ true → Report s (toZ w64 (ofZ w64 c)) ≡ cond b (Report s c) Quiet
 accepted-report b s c f e = ap (Report s) (toZ-ofZ f) ∙ sym (ap (λ (x : Bool). cond x (Report s c) Quiet) e)
 
-pub on-accepted : (v : Verdict) (b : Bool) (s : ℕ) (c : ℤ) (r : Watched) → SFits w64 c → v ≡ Accepted b → r ≡ cond b (Report s (toZ w64 (ofZ w64 c))) Quiet → r ≡ onVerdict v s c Quiet
+pub on-accepted : (v : Verdict) (b : Bool) (s : ℕ) (c : ℤ) (r : Watched) → SFits w64 c → v ≡ Accepted b → r ≡ cond b (Report s (toZ w64 (ofZ w64 c))) Quiet
+    → r ≡ onVerdict v s c Quiet
 on-accepted v true s c r h e f = f ∙ ap (Report s) (toZ-ofZ h) ∙ sym (ap (λ (x : Verdict). onVerdict x s c Quiet) e)
 on-accepted v false s c r h e f = f ∙ sym (ap (λ (x : Verdict). onVerdict x s c Quiet) e)
 
 pub on-refused : (v : Verdict) (n s : ℕ) (c : ℤ) → v ≡ NotStepped n → Refused n ≡ onVerdict v s c Quiet
 on-refused v n s c e = sym (ap (λ (x : Verdict). onVerdict x s c Quiet) e)
 
-pub on-culprit : (a : Advanced) (s : ℕ) (c : ℤ) (r : Watched) → SFits w64 c → c ≡ rootCulprit (a .monitor) → r ≡ onVerdict (a .verdict) s (toZ w64 (ofZ w64 c)) Quiet → r ≡ onStep a s Quiet
+pub on-culprit : (a : Advanced) (s : ℕ) (c : ℤ) (r : Watched) → SFits w64 c → c ≡ rootCulprit (a .monitor)
+    → r ≡ onVerdict (a .verdict) s (toZ w64 (ofZ w64 c)) Quiet → r ≡ onStep a s Quiet
 on-culprit a s c r h e f = f ∙ ap (λ (x : ℤ). onVerdict (a .verdict) s x Quiet) (toZ-ofZ h ∙ e)
 
 ends-here : (v : Verdict) (s : ℕ) (c : ℤ) (rest : Watched) → isEnd (onVerdict v s c Quiet) ≡ true → onVerdict v s c Quiet ≡ onVerdict v s c rest
@@ -57,18 +59,19 @@ goes-on (Accepted false) s c rest e = refl
 goes-on (NotStepped n) s c rest e = true-false refl e
 
 -- ---- the loop: what is left from a place on, by the monitor as it stands, is what the whole gives
-pub record Left (t : LentTables) (m : Monitor) (text : List ℕ) (from : ℕ) (k : Monitor) (at : ℕ) : Type 0 where
+pub record Left (t : LentTables) (m : ReferenceMonitor) (text : List ℕ) (from : ℕ) (k : ReferenceMonitor) (at : ℕ) : Type 0 where
   pub is : watched t m (stepsFrom text from) ≡ watched t k (stepsFrom text at)
 
-pub left-first : (t : LentTables) (m : Monitor) (text : List ℕ) (from : ℕ) → Left t m text from m from
+pub left-first : (t : LentTables) (m : ReferenceMonitor) (text : List ℕ) (from : ℕ) → Left t m text from m from
 left-first t m text from = record { is = refl }
 
-pub left-end : (t : LentTables) (m : Monitor) (text : List ℕ) (from : ℕ) (k : Monitor) (at : ℕ) (r : StepRead) → Left t m text from k at → stepResult r ≡ given (nextStep text at) → r ≡ End → Quiet ≡ watched t m (stepsFrom text from)
+pub left-end : (t : LentTables) (m : ReferenceMonitor) (text : List ℕ) (from : ℕ) (k : ReferenceMonitor) (at : ℕ) (r : StepRead) → Left t m text from k at
+    → stepResult r ≡ given (nextStep text at) → r ≡ End → Quiet ≡ watched t m (stepsFrom text from)
 unfolding watched
 left-end t m text from k at r l h e = sym (l .is ∙ ap (watched t k) (none-left text at r h e))
 
 -- the next line is step s with truths w
-module _ (t : LentTables) (m : Monitor) (text : List ℕ) (from : ℕ) (k : Monitor) (at : ℕ) (r : StepRead) (s w next : ℕ) (h : stepResult r ≡ given (nextStep text at)) (e : r ≡ Step s w next) where
+module _ (t : LentTables) (m : ReferenceMonitor) (text : List ℕ) (from : ℕ) (k : ReferenceMonitor) (at : ℕ) (r : StepRead) (s w next : ℕ) (h : stepResult r ≡ given (nextStep text at)) (e : r ≡ Step s w next) where
   pub fewer : length (stepsFrom text next) < length (stepsFrom text at)
   fewer = omega (arith, ap length (one-more text at r h s w next e))
 
@@ -86,27 +89,30 @@ module _ (t : LentTables) (m : Monitor) (text : List ℕ) (from : ℕ) (k : Moni
     left-next j = record { is = whole ∙ sym (goes-on (a .verdict) s (rootCulprit (a .monitor)) (watched t (a .monitor) (stepsFrom text next)) (sym (ap isEnd g) ∙ sym i ∙ j)) }
 
 -- ---- a compiled rule, a rule
-pub made-watched : (t : LentTables) (ls : List StepLine) (b : Monitor) (x : Started) (n : ℕ) (r : Watched) → b ≡ blank → x ≡ freshIn t b → x .outcome ≡ Made n → r ≡ watched t (x .monitor) ls → r ≡ compiledWatched t ls
+pub made-watched : (t : LentTables) (ls : List StepLine) (b : ReferenceMonitor) (x : Started) (n : ℕ) (r : Watched) → b ≡ blankMonitor → x ≡ freshIn t b
+    → x .outcome ≡ Made n → r ≡ watched t (x .monitor) ls → r ≡ compiledWatched t ls
 unfolding compiledWatched
 made-watched t ls b x n r d e f g =
-    let e′ : x ≡ freshIn t blank = e ∙ ap (freshIn t) d in
+    let e′ : x ≡ freshIn t blankMonitor = e ∙ ap (freshIn t) d in
     g ∙ ap (λ (o : Outcome). onOutcome o (watched t (x .monitor) ls)) (sym f) ∙ ap (λ (y : Started). onOutcome (y .outcome) (watched t (y .monitor) ls)) e′
 
-pub made-refused : (t : LentTables) (ls : List StepLine) (b : Monitor) (x : Started) (n : ℕ) → b ≡ blank → x ≡ freshIn t b → x .outcome ≡ NotMade n → Refused n ≡ compiledWatched t ls
+pub made-refused : (t : LentTables) (ls : List StepLine) (b : ReferenceMonitor) (x : Started) (n : ℕ) → b ≡ blankMonitor → x ≡ freshIn t b → x .outcome ≡ NotMade n
+    → Refused n ≡ compiledWatched t ls
 unfolding compiledWatched
 made-refused t ls b x n d e f =
-    let e′ : x ≡ freshIn t blank = e ∙ ap (freshIn t) d in
+    let e′ : x ≡ freshIn t blankMonitor = e ∙ ap (freshIn t) d in
     ap (λ (o : Outcome). onOutcome o (watched t (x .monitor) ls)) (sym f) ∙ ap (λ (y : Started). onOutcome (y .outcome) (watched t (y .monitor) ls)) e′
 
 module _ (text : List ℕ) (from : ℕ) (ops nums : List ℕ) (first count : ℕ) (a : Compiled) (nodes : List ℕ) (d : Answers (compileCall ops nums first count (replicate 1792 0)) a nodes) (n : ℕ) where
   abbrev at-nodes : List ℕ → ℕ → Watched
-  at-nodes ns k = compiledWatched (overLists ops nums first count ns 0 k) (stepsFrom text from)
+  at-nodes ns k = compiledWatched (tables ops nums first count ns 0 k) (stepsFrom text from)
 
   ends-as : onCompiled (resultOf a) (at-nodes nodes) ≡ ruleWatched text from ops nums first count
   unfolding ruleWatched
   ends-as = λ i. onCompiled (d .answers i) (at-nodes (d .leaves i))
 
-  pub rule-watched : (r : Watched) → a ≡ Nodes n → r ≡ compiledWatched (overLists ops nums first count nodes 0 n) (stepsFrom text from) → r ≡ ruleWatched text from ops nums first count
+  pub rule-watched : (r : Watched) → a ≡ Nodes n → r ≡ compiledWatched (tables ops nums first count nodes 0 n) (stepsFrom text from)
+      → r ≡ ruleWatched text from ops nums first count
   rule-watched r e f = f ∙ sym (ap (λ (x : Compiled). onCompiled (resultOf x) (at-nodes nodes)) e) ∙ ends-as
 
   pub rule-refused : a ≡ NotCompiled n → Refused n ≡ ruleWatched text from ops nums first count

@@ -21,11 +21,11 @@ abbrev pub truthsOf : List StepLine → List ℕ
 truthsOf ls = map (λ l. l .truths) ls
 
 -- the truths of the step lines in their order
-abbrev pub recordOf : List StepLine → Record
-recordOf ls s = getD (truthsOf ls) s 0
+abbrev pub lineRecord : List StepLine → Record
+lineRecord ls s = getD (truthsOf ls) s 0
 
-pub record Says (m : Mon) (ls : List StepLine) (w : Watched) : Type 0 where
+pub record SaysReport (m : Mon) (ls : List StepLine) (w : Watched) : Type 0 where
   -- a report with its culprit is printed exactly where it is the record's
-  pub reports : (s : ℕ) (c : ℤ) → (w ≡ Report s c) ↔ ((s < length ls) × meaning.Report m (recordOf ls) s c)
+  pub reports : (s : ℕ) (c : ℤ) → (w ≡ Report s c) ↔ ((s < length ls) × meaning.Report m (lineRecord ls) s c)
   -- and none exactly where the alarm holds at no step line
-  pub quiet : (w ≡ Quiet) ↔ NoneBelow (Alarm m (recordOf ls)) (length ls)
+  pub quiet : (w ≡ Quiet) ↔ NoneBelow (Alarm m (lineRecord ls)) (length ls)

@@ -15,16 +15,16 @@ use Rattle.stepping.specs.declared.call.Verdict.{Verdict}
 use Rattle.stepping.specs.declared.call.Verdict.the-variants.{Accepted, Refused as NotStepped}
 use Rattle.stepping.specs.declared.fresh.Outcome.{Outcome}
 use Rattle.stepping.specs.declared.fresh.Outcome.the-variants.{Made, Refused as NotMade}
-use Rattle.lent.specs.Lent.{LentTables}
-use Rattle.in_place.specs.declared.Monitor.{Monitor}
+use Rattle.lent.specs.Lent.{LentTables, tables}
+use Rattle.in_place.specs.declared.ReferenceMonitor.{ReferenceMonitor}
 use Rattle.in_place.specs.declared.step.Advanced.{Advanced}
 use Rattle.in_place.specs.declared.fresh.Started.{Started}
-use Rattle.in_place.specs.InPlace.{overLists, stepIn, freshIn}
+use Rattle.in_place.specs.InPlace.{stepIn, freshIn}
 use Rattle.watch.specs.declared.rule.Watched.{Watched}
 use Rattle.watch.specs.declared.rule.Watched.the-variants.{Quiet, Report, Refused}
 
 -- the culprit of the root
-abbrev pub rootCulprit : Monitor → ℤ
+abbrev pub rootCulprit : ReferenceMonitor → ℤ
 rootCulprit m = getD (m .culprits) 0 (pos 0)
 
 -- a call's answer: a report or a refusal ends the watch
@@ -36,7 +36,7 @@ onVerdict (NotStepped n) s c rest = Refused n
 abbrev pub onStep : Advanced → ℕ → Watched → Watched
 onStep a s rest = onVerdict (a .verdict) s (rootCulprit (a .monitor)) rest
 
-unfoldable pub watched : LentTables → Monitor → List StepLine → Watched
+unfoldable pub watched : LentTables → ReferenceMonitor → List StepLine → Watched
 watched t m [] = Quiet
 watched t m (l ∷ ls) = onStep (stepIn t m (l .number) (l .truths)) (l .number) (watched t (stepIn t m (l .number) (l .truths) .monitor) ls)
 
@@ -47,8 +47,8 @@ isEnd (Report s c) = true
 isEnd (Refused n) = true
 
 -- a monitor before it is made
-abbrev pub blank : Monitor
-blank = record {
+abbrev pub blankMonitor : ReferenceMonitor
+blankMonitor = record {
   size = 0;
   forms = replicate ruleNodes 0;
   bounds = replicate ruleNodes 0;
@@ -64,7 +64,7 @@ onOutcome (NotMade n) w = Refused n
 
 -- the compiled rule that the tables hold
 unfoldable pub compiledWatched : LentTables → List StepLine → Watched
-compiledWatched t ls = onOutcome (freshIn t blank .outcome) (watched t (freshIn t blank .monitor) ls)
+compiledWatched t ls = onOutcome (freshIn t blankMonitor .outcome) (watched t (freshIn t blankMonitor .monitor) ls)
 
 abbrev pub onCompiled : Result ℕ → (ℕ → Watched) → Watched
 onCompiled (given n) w = w n
@@ -73,4 +73,4 @@ onCompiled (refused n) w = Refused n
 unfoldable pub ruleWatched : List ℕ → ℕ → List ℕ → List ℕ → ℕ → ℕ → Watched
 ruleWatched text from ops nums first count =
     let c : Call = compileCall ops nums first count (replicate nodeCells 0) in
-    onCompiled (c .answer) (λ n. compiledWatched (overLists ops nums first count (c .out) 0 n) (stepsFrom text from))
+    onCompiled (c .answer) (λ n. compiledWatched (tables ops nums first count (c .out) 0 n) (stepsFrom text from))

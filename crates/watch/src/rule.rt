@@ -1,6 +1,6 @@
 // Watching one rule of a table of node structs over the step lines of a book. Table and monitor are lent to every call (crate `lending`).
 use compiler::Compiled;
-use in_place::Monitor;
+use in_place::ReferenceMonitor;
 use in_place::step::Advanced;
 use lending::compile_over;
 use lending::fresh_over;
@@ -17,9 +17,9 @@ ghost use mathlib.Core.Bool.{cond};
 ghost use mathlib.Core.Path.{_≡_};
 ghost use Rattle.node_table.specs.Node.{opsOf, numsOf};
 ghost use Rattle.reader.specs.Steps.{stepsFrom};
-ghost use Rattle.table_step.specs.Over.{over};
+ghost use Rattle.table_step.specs.Over.{tablesOver};
 ghost use Rattle.watch.specs.declared.rule.Watched.the-variants.{Quiet, Report};
-ghost use Rattle.watch.specs.Watch.{rootCulprit, onVerdict, onStep, isEnd, watched, blank, compiledWatched, ruleWatched};
+ghost use Rattle.watch.specs.Watch.{rootCulprit, onVerdict, onStep, isEnd, watched, blankMonitor, compiledWatched, ruleWatched};
 
 // No report; the first report; or the refusal that ended the watch.
 pub enum Watched {
@@ -29,7 +29,7 @@ pub enum Watched {
 }
 
 // The culprit of the root.
-fn root_culprit(m: Monitor) -> i64
+fn root_culprit(m: ReferenceMonitor) -> i64
     ensures { λ r. ⌜ r ≡ rootCulprit m ⌝ }
 {
     let culprits = m.culprits;
@@ -75,7 +75,7 @@ fn is_end(w: Watched) -> bool
 
 // Steps a monitor over the step lines from a place of the text on, up to its report.
 fn watch_steps(
-    m: Monitor,
+    m: ReferenceMonitor,
     text: &[u8],
     from: usize,
     table: [FormulaNode; BOOK_NODES],
@@ -84,7 +84,7 @@ fn watch_steps(
     nodes: &[u64],
     ncount: usize,
 ) -> Watched
-    ensures { λ r. ⌜ r ≡ watched (over table first count (now (nodes .entry)) 0 ncount) m (stepsFrom (now (text .entry)) from) ⌝ }
+    ensures { λ r. ⌜ r ≡ watched (tablesOver table first count (now (nodes .entry)) 0 ncount) m (stepsFrom (now (text .entry)) from) ⌝ }
 {
     let mut k = m;
     let mut at = from;
@@ -104,8 +104,8 @@ fn watch_steps(
 }
 
 // A monitor before it is made.
-fn blank_monitor() -> Monitor
-    ensures { λ r. ⌜ r ≡ blank ⌝ }
+fn blank_monitor() -> ReferenceMonitor
+    ensures { λ r. ⌜ r ≡ blankMonitor ⌝ }
 {
     let forms = [0u64; RULE_NODES];
     let bounds = [0u64; RULE_NODES];
@@ -113,7 +113,7 @@ fn blank_monitor() -> Monitor
     let remaining = [0u64; RULE_NODES];
     let failed = [false; RULE_NODES];
     let culprits = [0i64; RULE_NODES];
-    Monitor {
+    ReferenceMonitor {
         size: 0,
         forms,
         bounds,
@@ -134,7 +134,7 @@ fn watch_compiled(
     nodes: &[u64],
     ncount: usize,
 ) -> Watched
-    ensures { λ r. ⌜ r ≡ compiledWatched (over table first count (now (nodes .entry)) 0 ncount) (stepsFrom (now (text .entry)) from) ⌝ }
+    ensures { λ r. ⌜ r ≡ compiledWatched (tablesOver table first count (now (nodes .entry)) 0 ncount) (stepsFrom (now (text .entry)) from) ⌝ }
 {
     let started = fresh_over(blank_monitor(), table, first, count, nodes, 0, ncount);
     let outcome = started.outcome;

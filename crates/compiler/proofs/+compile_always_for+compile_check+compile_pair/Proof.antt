@@ -79,795 +79,180 @@ compile-pair-below t =
     (falls 3 compile-pair-kinds.ps _<_ μ-compile-pair t)
     compile-pair.Pre
 
-compile-always-for-returns : (t : ℕ) → compile-always-for-lts.Need-returns (
-  upto-reads.Asked,
-  upto-reads.Learnt,
-  compile-check-below t,
-  compile-check.Post,
-) (compile-always-for-at t) compile-always-for.Post
+-- what the calls of compile_always_for ask and answer
+abbrev compile-always-for-claims : ℕ → compile-always-for-lts.Claims
+compile-always-for-claims t = (upto-reads.Asked, upto-reads.Learnt, compile-check-below t, compile-check.Post)
+
+-- what the calls of compile_check ask and answer
+abbrev compile-check-claims : ℕ → compile-check-lts.Claims
+compile-check-claims t = (compile-not-reads.Asked, compile-not-reads.Learnt, compile-next-reads.Asked, compile-next-reads.Learnt, compile-check-below t, compile-check.Post, compile-always-for-below t, compile-always-for.Post, compile-within-reads.Asked, compile-within-reads.Learnt, compile-implies-reads.Asked, compile-implies-reads.Learnt, compile-atom-reads.Asked, compile-atom-reads.Learnt, compile-pair-below t, compile-pair.Post)
+
+-- what the calls of compile_pair ask and answer
+abbrev compile-pair-claims : ℕ → compile-pair-lts.Claims
+compile-pair-claims t = (join-node-reads.Asked, join-node-reads.Learnt, put-node-reads.Asked, put-node-reads.Learnt, compile-check-below t, compile-check.Post)
+
+compile-always-for-returns : (t : ℕ) → compile-always-for-lts.Need-returns (compile-always-for-claims t) (compile-always-for-at t) compile-always-for.Post
 compile-always-for-returns t c = search (needs, always-for-under)
 
-compile-always-for-mul-b : (t : ℕ) → compile-always-for-lts.Need-mul-b (
-  upto-reads.Asked,
-  upto-reads.Learnt,
-  compile-check-below t,
-  compile-check.Post,
-) (compile-always-for-at t) compile-always-for.Post
+compile-always-for-mul-b : (t : ℕ) → compile-always-for-lts.Need-mul-b (compile-always-for-claims t) (compile-always-for-at t) compile-always-for.Post
 compile-always-for-mul-b t c = search (needs, ready-in-nums)
 
-compile-always-for-shared-slice-read-b : (t : ℕ) → compile-always-for-lts.Need-shared-slice-read-b (
-  upto-reads.Asked,
-  upto-reads.Learnt,
-  compile-check-below t,
-  compile-check.Post,
-) (compile-always-for-at t) compile-always-for.Post
+compile-always-for-shared-slice-read-b : (t : ℕ) → compile-always-for-lts.Need-shared-slice-read-b (compile-always-for-claims t) (compile-always-for-at t) compile-always-for.Post
 compile-always-for-shared-slice-read-b t c = search (needs, ready-in-nums)
 
-compile-always-for-returns-2 : (t : ℕ) → compile-always-for-lts.Need-returns-2 (
-  upto-reads.Asked,
-  upto-reads.Learnt,
-  compile-check-below t,
-  compile-check.Post,
-) (compile-always-for-at t) compile-always-for.Post
+compile-always-for-returns-2 : (t : ℕ) → compile-always-for-lts.Need-returns-2 (compile-always-for-claims t) (compile-always-for-at t) compile-always-for.Post
 compile-always-for-returns-2 t c = search (needs, always-for-zero)
 
-compile-always-for-add-compile-check : (t : ℕ) → compile-always-for-lts.Need-add-compile-check (
-  upto-reads.Asked,
-  upto-reads.Learnt,
-  compile-check-below t,
-  compile-check.Post,
-) (compile-always-for-at t) compile-always-for.Post
+compile-always-for-add-compile-check : (t : ℕ) → compile-always-for-lts.Need-add-compile-check (compile-always-for-claims t) (compile-always-for-at t) compile-always-for.Post
 compile-always-for-add-compile-check t c = search needs
 
-compile-always-for-sub-upto : (t : ℕ) → compile-always-for-lts.Need-sub-upto (
-  upto-reads.Asked,
-  upto-reads.Learnt,
-  compile-check-below t,
-  compile-check.Post,
-) (compile-always-for-at t) compile-always-for.Post
+compile-always-for-sub-upto : (t : ℕ) → compile-always-for-lts.Need-sub-upto (compile-always-for-claims t) (compile-always-for-at t) compile-always-for.Post
 compile-always-for-sub-upto t c = search needs
 
-compile-always-for-upto-requires : (t : ℕ) → compile-always-for-lts.Need-upto-requires (
-  upto-reads.Asked,
-  upto-reads.Learnt,
-  compile-check-below t,
-  compile-check.Post,
-) (compile-always-for-at t) compile-always-for.Post
+compile-always-for-upto-requires : (t : ℕ) → compile-always-for-lts.Need-upto-requires (compile-always-for-claims t) (compile-always-for-at t) compile-always-for.Post
 compile-always-for-upto-requires t c κs = search needs
 
-compile-always-for-compile-check-requires :
-    (t : ℕ) → compile-always-for-lts.Need-compile-check-requires (
-      upto-reads.Asked,
-      upto-reads.Learnt,
-      compile-check-below t,
-      compile-check.Post,
-    ) (compile-always-for-at t) compile-always-for.Post
+compile-always-for-compile-check-requires : (t : ℕ) → compile-always-for-lts.Need-compile-check-requires (compile-always-for-claims t) (compile-always-for-at t) compile-always-for.Post
 compile-always-for-compile-check-requires t c κs = (
   falls-from-part _ _ _ _ _ _ (c .before .before .before .before .before .before .before .before .pre .1 .0) t (c .before .before .before .before .before .before .before .before .pre .0),
   ready-always-for _ _ _ _ _ _ (c .before .before .before .before .before .before .before .before .pre .1 .0) _ _ (c .before .before .before .before .before .before .before .before .pre .1 .1) (c .before .before .before .shared-slice-known3 .given (c .before .before .before .before .before .before .before .before .args .i) .fits) (c .before .before .if2 .left) (c .before .upto .ensures),
 )
 
-compile-always-for-same-length : (t : ℕ) → compile-always-for-lts.Need-same-length (
-  upto-reads.Asked,
-  upto-reads.Learnt,
-  compile-check-below t,
-  compile-check.Post,
-) (compile-always-for-at t) compile-always-for.Post
+compile-always-for-same-length : (t : ℕ) → compile-always-for-lts.Need-same-length (compile-always-for-claims t) (compile-always-for-at t) compile-always-for.Post
 compile-always-for-same-length t c = search needs
 
-compile-always-for-returns-3 : (t : ℕ) → compile-always-for-lts.Need-returns-3 (
-  upto-reads.Asked,
-  upto-reads.Learnt,
-  compile-check-below t,
-  compile-check.Post,
-) (compile-always-for-at t) compile-always-for.Post
+compile-always-for-returns-3 : (t : ℕ) → compile-always-for-lts.Need-returns-3 (compile-always-for-claims t) (compile-always-for-at t) compile-always-for.Post
 compile-always-for-returns-3 t c = search (needs, always-for-laid)
 
-compile-check-shared-slice-read-match : (t : ℕ) → compile-check-lts.Need-shared-slice-read-match (
-  compile-not-reads.Asked,
-  compile-not-reads.Learnt,
-  compile-next-reads.Asked,
-  compile-next-reads.Learnt,
-  compile-check-below t,
-  compile-check.Post,
-  compile-always-for-below t,
-  compile-always-for.Post,
-  compile-within-reads.Asked,
-  compile-within-reads.Learnt,
-  compile-implies-reads.Asked,
-  compile-implies-reads.Learnt,
-  compile-atom-reads.Asked,
-  compile-atom-reads.Learnt,
-  compile-pair-below t,
-  compile-pair.Post,
-) (compile-check-at t) compile-check.Post
+compile-check-shared-slice-read-match : (t : ℕ) → compile-check-lts.Need-shared-slice-read-match (compile-check-claims t) (compile-check-at t) compile-check.Post
 compile-check-shared-slice-read-match t c = search (needs, ready-in-ops)
 
-compile-check-compile-not-requires : (t : ℕ) → compile-check-lts.Need-compile-not-requires (
-  compile-not-reads.Asked,
-  compile-not-reads.Learnt,
-  compile-next-reads.Asked,
-  compile-next-reads.Learnt,
-  compile-check-below t,
-  compile-check.Post,
-  compile-always-for-below t,
-  compile-always-for.Post,
-  compile-within-reads.Asked,
-  compile-within-reads.Learnt,
-  compile-implies-reads.Asked,
-  compile-implies-reads.Learnt,
-  compile-atom-reads.Asked,
-  compile-atom-reads.Learnt,
-  compile-pair-below t,
-  compile-pair.Post,
-) (compile-check-at t) compile-check.Post
+compile-check-compile-not-requires : (t : ℕ) → compile-check-lts.Need-compile-not-requires (compile-check-claims t) (compile-check-at t) compile-check.Post
 compile-check-compile-not-requires t c κs = search needs
 
-compile-check-compile-next-requires : (t : ℕ) → compile-check-lts.Need-compile-next-requires (
-  compile-not-reads.Asked,
-  compile-not-reads.Learnt,
-  compile-next-reads.Asked,
-  compile-next-reads.Learnt,
-  compile-check-below t,
-  compile-check.Post,
-  compile-always-for-below t,
-  compile-always-for.Post,
-  compile-within-reads.Asked,
-  compile-within-reads.Learnt,
-  compile-implies-reads.Asked,
-  compile-implies-reads.Learnt,
-  compile-atom-reads.Asked,
-  compile-atom-reads.Learnt,
-  compile-pair-below t,
-  compile-pair.Post,
-) (compile-check-at t) compile-check.Post
+compile-check-compile-next-requires : (t : ℕ) → compile-check-lts.Need-compile-next-requires (compile-check-claims t) (compile-check-at t) compile-check.Post
 compile-check-compile-next-requires t c κs = search needs
 
-compile-check-add-compile-check : (t : ℕ) → compile-check-lts.Need-add-compile-check (
-  compile-not-reads.Asked,
-  compile-not-reads.Learnt,
-  compile-next-reads.Asked,
-  compile-next-reads.Learnt,
-  compile-check-below t,
-  compile-check.Post,
-  compile-always-for-below t,
-  compile-always-for.Post,
-  compile-within-reads.Asked,
-  compile-within-reads.Learnt,
-  compile-implies-reads.Asked,
-  compile-implies-reads.Learnt,
-  compile-atom-reads.Asked,
-  compile-atom-reads.Learnt,
-  compile-pair-below t,
-  compile-pair.Post,
-) (compile-check-at t) compile-check.Post
+compile-check-add-compile-check : (t : ℕ) → compile-check-lts.Need-add-compile-check (compile-check-claims t) (compile-check-at t) compile-check.Post
 compile-check-add-compile-check t c = search needs
 
-compile-check-compile-check-requires : (t : ℕ) → compile-check-lts.Need-compile-check-requires (
-  compile-not-reads.Asked,
-  compile-not-reads.Learnt,
-  compile-next-reads.Asked,
-  compile-next-reads.Learnt,
-  compile-check-below t,
-  compile-check.Post,
-  compile-always-for-below t,
-  compile-always-for.Post,
-  compile-within-reads.Asked,
-  compile-within-reads.Learnt,
-  compile-implies-reads.Asked,
-  compile-implies-reads.Learnt,
-  compile-atom-reads.Asked,
-  compile-atom-reads.Learnt,
-  compile-pair-below t,
-  compile-pair.Post,
-) (compile-check-at t) compile-check.Post
+compile-check-compile-check-requires : (t : ℕ) → compile-check-lts.Need-compile-check-requires (compile-check-claims t) (compile-check-at t) compile-check.Post
 compile-check-compile-check-requires t c κs = search (needs, ready-always, falls-operand)
 
-compile-check-compile-always-for-requires :
-    (t : ℕ) → compile-check-lts.Need-compile-always-for-requires (
-      compile-not-reads.Asked,
-      compile-not-reads.Learnt,
-      compile-next-reads.Asked,
-      compile-next-reads.Learnt,
-      compile-check-below t,
-      compile-check.Post,
-      compile-always-for-below t,
-      compile-always-for.Post,
-      compile-within-reads.Asked,
-      compile-within-reads.Learnt,
-      compile-implies-reads.Asked,
-      compile-implies-reads.Learnt,
-      compile-atom-reads.Asked,
-      compile-atom-reads.Learnt,
-      compile-pair-below t,
-      compile-pair.Post,
-    ) (compile-check-at t) compile-check.Post
+compile-check-compile-always-for-requires : (t : ℕ) → compile-check-lts.Need-compile-always-for-requires (compile-check-claims t) (compile-check-at t) compile-check.Post
 compile-check-compile-always-for-requires t c κs = search (needs, falls-to-part)
 
-compile-check-compile-within-requires : (t : ℕ) → compile-check-lts.Need-compile-within-requires (
-  compile-not-reads.Asked,
-  compile-not-reads.Learnt,
-  compile-next-reads.Asked,
-  compile-next-reads.Learnt,
-  compile-check-below t,
-  compile-check.Post,
-  compile-always-for-below t,
-  compile-always-for.Post,
-  compile-within-reads.Asked,
-  compile-within-reads.Learnt,
-  compile-implies-reads.Asked,
-  compile-implies-reads.Learnt,
-  compile-atom-reads.Asked,
-  compile-atom-reads.Learnt,
-  compile-pair-below t,
-  compile-pair.Post,
-) (compile-check-at t) compile-check.Post
+compile-check-compile-within-requires : (t : ℕ) → compile-check-lts.Need-compile-within-requires (compile-check-claims t) (compile-check-at t) compile-check.Post
 compile-check-compile-within-requires t c κs = search needs
 
-compile-check-compile-implies-requires : (t : ℕ) → compile-check-lts.Need-compile-implies-requires (
-  compile-not-reads.Asked,
-  compile-not-reads.Learnt,
-  compile-next-reads.Asked,
-  compile-next-reads.Learnt,
-  compile-check-below t,
-  compile-check.Post,
-  compile-always-for-below t,
-  compile-always-for.Post,
-  compile-within-reads.Asked,
-  compile-within-reads.Learnt,
-  compile-implies-reads.Asked,
-  compile-implies-reads.Learnt,
-  compile-atom-reads.Asked,
-  compile-atom-reads.Learnt,
-  compile-pair-below t,
-  compile-pair.Post,
-) (compile-check-at t) compile-check.Post
+compile-check-compile-implies-requires : (t : ℕ) → compile-check-lts.Need-compile-implies-requires (compile-check-claims t) (compile-check-at t) compile-check.Post
 compile-check-compile-implies-requires t c κs = search needs
 
-compile-check-compile-atom-requires : (t : ℕ) → compile-check-lts.Need-compile-atom-requires (
-  compile-not-reads.Asked,
-  compile-not-reads.Learnt,
-  compile-next-reads.Asked,
-  compile-next-reads.Learnt,
-  compile-check-below t,
-  compile-check.Post,
-  compile-always-for-below t,
-  compile-always-for.Post,
-  compile-within-reads.Asked,
-  compile-within-reads.Learnt,
-  compile-implies-reads.Asked,
-  compile-implies-reads.Learnt,
-  compile-atom-reads.Asked,
-  compile-atom-reads.Learnt,
-  compile-pair-below t,
-  compile-pair.Post,
-) (compile-check-at t) compile-check.Post
+compile-check-compile-atom-requires : (t : ℕ) → compile-check-lts.Need-compile-atom-requires (compile-check-claims t) (compile-check-at t) compile-check.Post
 compile-check-compile-atom-requires t c κs = search needs
 
-compile-check-compile-pair-requires : (t : ℕ) → compile-check-lts.Need-compile-pair-requires (
-  compile-not-reads.Asked,
-  compile-not-reads.Learnt,
-  compile-next-reads.Asked,
-  compile-next-reads.Learnt,
-  compile-check-below t,
-  compile-check.Post,
-  compile-always-for-below t,
-  compile-always-for.Post,
-  compile-within-reads.Asked,
-  compile-within-reads.Learnt,
-  compile-implies-reads.Asked,
-  compile-implies-reads.Learnt,
-  compile-atom-reads.Asked,
-  compile-atom-reads.Learnt,
-  compile-pair-below t,
-  compile-pair.Post,
-) (compile-check-at t) compile-check.Post
+compile-check-compile-pair-requires : (t : ℕ) → compile-check-lts.Need-compile-pair-requires (compile-check-claims t) (compile-check-at t) compile-check.Post
 compile-check-compile-pair-requires t c κs = search (needs, falls-to-part, from-joins)
 
-compile-check-same-length : (t : ℕ) → compile-check-lts.Need-same-length (
-  compile-not-reads.Asked,
-  compile-not-reads.Learnt,
-  compile-next-reads.Asked,
-  compile-next-reads.Learnt,
-  compile-check-below t,
-  compile-check.Post,
-  compile-always-for-below t,
-  compile-always-for.Post,
-  compile-within-reads.Asked,
-  compile-within-reads.Learnt,
-  compile-implies-reads.Asked,
-  compile-implies-reads.Learnt,
-  compile-atom-reads.Asked,
-  compile-atom-reads.Learnt,
-  compile-pair-below t,
-  compile-pair.Post,
-) (compile-check-at t) compile-check.Post
+compile-check-same-length : (t : ℕ) → compile-check-lts.Need-same-length (compile-check-claims t) (compile-check-at t) compile-check.Post
 compile-check-same-length t c = search needs
 
-compile-check-returns : (t : ℕ) → compile-check-lts.Need-returns (
-  compile-not-reads.Asked,
-  compile-not-reads.Learnt,
-  compile-next-reads.Asked,
-  compile-next-reads.Learnt,
-  compile-check-below t,
-  compile-check.Post,
-  compile-always-for-below t,
-  compile-always-for.Post,
-  compile-within-reads.Asked,
-  compile-within-reads.Learnt,
-  compile-implies-reads.Asked,
-  compile-implies-reads.Learnt,
-  compile-atom-reads.Asked,
-  compile-atom-reads.Learnt,
-  compile-pair-below t,
-  compile-pair.Post,
-) (compile-check-at t) compile-check.Post
+compile-check-returns : (t : ℕ) → compile-check-lts.Need-returns (compile-check-claims t) (compile-check-at t) compile-check.Post
 compile-check-returns t c = search (needs, always-laid)
 
-compile-check-same-length-2 : (t : ℕ) → compile-check-lts.Need-same-length-2 (
-  compile-not-reads.Asked,
-  compile-not-reads.Learnt,
-  compile-next-reads.Asked,
-  compile-next-reads.Learnt,
-  compile-check-below t,
-  compile-check.Post,
-  compile-always-for-below t,
-  compile-always-for.Post,
-  compile-within-reads.Asked,
-  compile-within-reads.Learnt,
-  compile-implies-reads.Asked,
-  compile-implies-reads.Learnt,
-  compile-atom-reads.Asked,
-  compile-atom-reads.Learnt,
-  compile-pair-below t,
-  compile-pair.Post,
-) (compile-check-at t) compile-check.Post
+compile-check-same-length-2 : (t : ℕ) → compile-check-lts.Need-same-length-2 (compile-check-claims t) (compile-check-at t) compile-check.Post
 compile-check-same-length-2 t c = search needs
 
-compile-check-returns-2 : (t : ℕ) → compile-check-lts.Need-returns-2 (
-  compile-not-reads.Asked,
-  compile-not-reads.Learnt,
-  compile-next-reads.Asked,
-  compile-next-reads.Learnt,
-  compile-check-below t,
-  compile-check.Post,
-  compile-always-for-below t,
-  compile-always-for.Post,
-  compile-within-reads.Asked,
-  compile-within-reads.Learnt,
-  compile-implies-reads.Asked,
-  compile-implies-reads.Learnt,
-  compile-atom-reads.Asked,
-  compile-atom-reads.Learnt,
-  compile-pair-below t,
-  compile-pair.Post,
-) (compile-check-at t) compile-check.Post
+compile-check-returns-2 : (t : ℕ) → compile-check-lts.Need-returns-2 (compile-check-claims t) (compile-check-at t) compile-check.Post
 compile-check-returns-2 t c = search (needs, always-laid)
 
-compile-check-same-length-3 : (t : ℕ) → compile-check-lts.Need-same-length-3 (
-  compile-not-reads.Asked,
-  compile-not-reads.Learnt,
-  compile-next-reads.Asked,
-  compile-next-reads.Learnt,
-  compile-check-below t,
-  compile-check.Post,
-  compile-always-for-below t,
-  compile-always-for.Post,
-  compile-within-reads.Asked,
-  compile-within-reads.Learnt,
-  compile-implies-reads.Asked,
-  compile-implies-reads.Learnt,
-  compile-atom-reads.Asked,
-  compile-atom-reads.Learnt,
-  compile-pair-below t,
-  compile-pair.Post,
-) (compile-check-at t) compile-check.Post
+compile-check-same-length-3 : (t : ℕ) → compile-check-lts.Need-same-length-3 (compile-check-claims t) (compile-check-at t) compile-check.Post
 compile-check-same-length-3 t c = search needs
 
-compile-check-returns-3 : (t : ℕ) → compile-check-lts.Need-returns-3 (
-  compile-not-reads.Asked,
-  compile-not-reads.Learnt,
-  compile-next-reads.Asked,
-  compile-next-reads.Learnt,
-  compile-check-below t,
-  compile-check.Post,
-  compile-always-for-below t,
-  compile-always-for.Post,
-  compile-within-reads.Asked,
-  compile-within-reads.Learnt,
-  compile-implies-reads.Asked,
-  compile-implies-reads.Learnt,
-  compile-atom-reads.Asked,
-  compile-atom-reads.Learnt,
-  compile-pair-below t,
-  compile-pair.Post,
-) (compile-check-at t) compile-check.Post
+compile-check-returns-3 : (t : ℕ) → compile-check-lts.Need-returns-3 (compile-check-claims t) (compile-check-at t) compile-check.Post
 compile-check-returns-3 t c = search (needs, always-laid)
 
-compile-check-same-length-4 : (t : ℕ) → compile-check-lts.Need-same-length-4 (
-  compile-not-reads.Asked,
-  compile-not-reads.Learnt,
-  compile-next-reads.Asked,
-  compile-next-reads.Learnt,
-  compile-check-below t,
-  compile-check.Post,
-  compile-always-for-below t,
-  compile-always-for.Post,
-  compile-within-reads.Asked,
-  compile-within-reads.Learnt,
-  compile-implies-reads.Asked,
-  compile-implies-reads.Learnt,
-  compile-atom-reads.Asked,
-  compile-atom-reads.Learnt,
-  compile-pair-below t,
-  compile-pair.Post,
-) (compile-check-at t) compile-check.Post
+compile-check-same-length-4 : (t : ℕ) → compile-check-lts.Need-same-length-4 (compile-check-claims t) (compile-check-at t) compile-check.Post
 compile-check-same-length-4 t c = search needs
 
-compile-check-returns-4 : (t : ℕ) → compile-check-lts.Need-returns-4 (
-  compile-not-reads.Asked,
-  compile-not-reads.Learnt,
-  compile-next-reads.Asked,
-  compile-next-reads.Learnt,
-  compile-check-below t,
-  compile-check.Post,
-  compile-always-for-below t,
-  compile-always-for.Post,
-  compile-within-reads.Asked,
-  compile-within-reads.Learnt,
-  compile-implies-reads.Asked,
-  compile-implies-reads.Learnt,
-  compile-atom-reads.Asked,
-  compile-atom-reads.Learnt,
-  compile-pair-below t,
-  compile-pair.Post,
-) (compile-check-at t) compile-check.Post
+compile-check-returns-4 : (t : ℕ) → compile-check-lts.Need-returns-4 (compile-check-claims t) (compile-check-at t) compile-check.Post
 compile-check-returns-4 t c = search (needs, always-laid)
 
-compile-check-same-length-5 : (t : ℕ) → compile-check-lts.Need-same-length-5 (
-  compile-not-reads.Asked,
-  compile-not-reads.Learnt,
-  compile-next-reads.Asked,
-  compile-next-reads.Learnt,
-  compile-check-below t,
-  compile-check.Post,
-  compile-always-for-below t,
-  compile-always-for.Post,
-  compile-within-reads.Asked,
-  compile-within-reads.Learnt,
-  compile-implies-reads.Asked,
-  compile-implies-reads.Learnt,
-  compile-atom-reads.Asked,
-  compile-atom-reads.Learnt,
-  compile-pair-below t,
-  compile-pair.Post,
-) (compile-check-at t) compile-check.Post
+compile-check-same-length-5 : (t : ℕ) → compile-check-lts.Need-same-length-5 (compile-check-claims t) (compile-check-at t) compile-check.Post
 compile-check-same-length-5 t c = search needs
 
-compile-check-returns-5 : (t : ℕ) → compile-check-lts.Need-returns-5 (
-  compile-not-reads.Asked,
-  compile-not-reads.Learnt,
-  compile-next-reads.Asked,
-  compile-next-reads.Learnt,
-  compile-check-below t,
-  compile-check.Post,
-  compile-always-for-below t,
-  compile-always-for.Post,
-  compile-within-reads.Asked,
-  compile-within-reads.Learnt,
-  compile-implies-reads.Asked,
-  compile-implies-reads.Learnt,
-  compile-atom-reads.Asked,
-  compile-atom-reads.Learnt,
-  compile-pair-below t,
-  compile-pair.Post,
-) (compile-check-at t) compile-check.Post
+compile-check-returns-5 : (t : ℕ) → compile-check-lts.Need-returns-5 (compile-check-claims t) (compile-check-at t) compile-check.Post
 compile-check-returns-5 t c = search (needs, always-laid)
 
-compile-check-same-length-6 : (t : ℕ) → compile-check-lts.Need-same-length-6 (
-  compile-not-reads.Asked,
-  compile-not-reads.Learnt,
-  compile-next-reads.Asked,
-  compile-next-reads.Learnt,
-  compile-check-below t,
-  compile-check.Post,
-  compile-always-for-below t,
-  compile-always-for.Post,
-  compile-within-reads.Asked,
-  compile-within-reads.Learnt,
-  compile-implies-reads.Asked,
-  compile-implies-reads.Learnt,
-  compile-atom-reads.Asked,
-  compile-atom-reads.Learnt,
-  compile-pair-below t,
-  compile-pair.Post,
-) (compile-check-at t) compile-check.Post
+compile-check-same-length-6 : (t : ℕ) → compile-check-lts.Need-same-length-6 (compile-check-claims t) (compile-check-at t) compile-check.Post
 compile-check-same-length-6 t c = search needs
 
-compile-check-returns-6 : (t : ℕ) → compile-check-lts.Need-returns-6 (
-  compile-not-reads.Asked,
-  compile-not-reads.Learnt,
-  compile-next-reads.Asked,
-  compile-next-reads.Learnt,
-  compile-check-below t,
-  compile-check.Post,
-  compile-always-for-below t,
-  compile-always-for.Post,
-  compile-within-reads.Asked,
-  compile-within-reads.Learnt,
-  compile-implies-reads.Asked,
-  compile-implies-reads.Learnt,
-  compile-atom-reads.Asked,
-  compile-atom-reads.Learnt,
-  compile-pair-below t,
-  compile-pair.Post,
-) (compile-check-at t) compile-check.Post
+compile-check-returns-6 : (t : ℕ) → compile-check-lts.Need-returns-6 (compile-check-claims t) (compile-check-at t) compile-check.Post
 compile-check-returns-6 t c = search (needs, always-laid)
 
-compile-check-same-length-7 : (t : ℕ) → compile-check-lts.Need-same-length-7 (
-  compile-not-reads.Asked,
-  compile-not-reads.Learnt,
-  compile-next-reads.Asked,
-  compile-next-reads.Learnt,
-  compile-check-below t,
-  compile-check.Post,
-  compile-always-for-below t,
-  compile-always-for.Post,
-  compile-within-reads.Asked,
-  compile-within-reads.Learnt,
-  compile-implies-reads.Asked,
-  compile-implies-reads.Learnt,
-  compile-atom-reads.Asked,
-  compile-atom-reads.Learnt,
-  compile-pair-below t,
-  compile-pair.Post,
-) (compile-check-at t) compile-check.Post
+compile-check-same-length-7 : (t : ℕ) → compile-check-lts.Need-same-length-7 (compile-check-claims t) (compile-check-at t) compile-check.Post
 compile-check-same-length-7 t c = search needs
 
-compile-check-returns-7 : (t : ℕ) → compile-check-lts.Need-returns-7 (
-  compile-not-reads.Asked,
-  compile-not-reads.Learnt,
-  compile-next-reads.Asked,
-  compile-next-reads.Learnt,
-  compile-check-below t,
-  compile-check.Post,
-  compile-always-for-below t,
-  compile-always-for.Post,
-  compile-within-reads.Asked,
-  compile-within-reads.Learnt,
-  compile-implies-reads.Asked,
-  compile-implies-reads.Learnt,
-  compile-atom-reads.Asked,
-  compile-atom-reads.Learnt,
-  compile-pair-below t,
-  compile-pair.Post,
-) (compile-check-at t) compile-check.Post
+compile-check-returns-7 : (t : ℕ) → compile-check-lts.Need-returns-7 (compile-check-claims t) (compile-check-at t) compile-check.Post
 compile-check-returns-7 t c = search (needs, always-laid)
 
-compile-check-same-length-8 : (t : ℕ) → compile-check-lts.Need-same-length-8 (
-  compile-not-reads.Asked,
-  compile-not-reads.Learnt,
-  compile-next-reads.Asked,
-  compile-next-reads.Learnt,
-  compile-check-below t,
-  compile-check.Post,
-  compile-always-for-below t,
-  compile-always-for.Post,
-  compile-within-reads.Asked,
-  compile-within-reads.Learnt,
-  compile-implies-reads.Asked,
-  compile-implies-reads.Learnt,
-  compile-atom-reads.Asked,
-  compile-atom-reads.Learnt,
-  compile-pair-below t,
-  compile-pair.Post,
-) (compile-check-at t) compile-check.Post
+compile-check-same-length-8 : (t : ℕ) → compile-check-lts.Need-same-length-8 (compile-check-claims t) (compile-check-at t) compile-check.Post
 compile-check-same-length-8 t c = search needs
 
-compile-check-returns-8 : (t : ℕ) → compile-check-lts.Need-returns-8 (
-  compile-not-reads.Asked,
-  compile-not-reads.Learnt,
-  compile-next-reads.Asked,
-  compile-next-reads.Learnt,
-  compile-check-below t,
-  compile-check.Post,
-  compile-always-for-below t,
-  compile-always-for.Post,
-  compile-within-reads.Asked,
-  compile-within-reads.Learnt,
-  compile-implies-reads.Asked,
-  compile-implies-reads.Learnt,
-  compile-atom-reads.Asked,
-  compile-atom-reads.Learnt,
-  compile-pair-below t,
-  compile-pair.Post,
-) (compile-check-at t) compile-check.Post
+compile-check-returns-8 : (t : ℕ) → compile-check-lts.Need-returns-8 (compile-check-claims t) (compile-check-at t) compile-check.Post
 compile-check-returns-8 t c = search (needs, always-laid)
 
-compile-check-returns-9 : (t : ℕ) → compile-check-lts.Need-returns-9 (
-  compile-not-reads.Asked,
-  compile-not-reads.Learnt,
-  compile-next-reads.Asked,
-  compile-next-reads.Learnt,
-  compile-check-below t,
-  compile-check.Post,
-  compile-always-for-below t,
-  compile-always-for.Post,
-  compile-within-reads.Asked,
-  compile-within-reads.Learnt,
-  compile-implies-reads.Asked,
-  compile-implies-reads.Learnt,
-  compile-atom-reads.Asked,
-  compile-atom-reads.Learnt,
-  compile-pair-below t,
-  compile-pair.Post,
-) (compile-check-at t) compile-check.Post
+compile-check-returns-9 : (t : ℕ) → compile-check-lts.Need-returns-9 (compile-check-claims t) (compile-check-at t) compile-check.Post
 compile-check-returns-9 t c = search (needs, eventually-refused)
 
-compile-check-returns-10 : (t : ℕ) → compile-check-lts.Need-returns-10 (
-  compile-not-reads.Asked,
-  compile-not-reads.Learnt,
-  compile-next-reads.Asked,
-  compile-next-reads.Learnt,
-  compile-check-below t,
-  compile-check.Post,
-  compile-always-for-below t,
-  compile-always-for.Post,
-  compile-within-reads.Asked,
-  compile-within-reads.Learnt,
-  compile-implies-reads.Asked,
-  compile-implies-reads.Learnt,
-  compile-atom-reads.Asked,
-  compile-atom-reads.Learnt,
-  compile-pair-below t,
-  compile-pair.Post,
-) (compile-check-at t) compile-check.Post
+compile-check-returns-10 : (t : ℕ) → compile-check-lts.Need-returns-10 (compile-check-claims t) (compile-check-at t) compile-check.Post
 compile-check-returns-10 t c = search (needs, until-refused)
 
-compile-pair-shared-slice-read-join-node :
-    (t : ℕ) → compile-pair-lts.Need-shared-slice-read-join-node (
-      join-node-reads.Asked,
-      join-node-reads.Learnt,
-      put-node-reads.Asked,
-      put-node-reads.Learnt,
-      compile-check-below t,
-      compile-check.Post,
-    ) (compile-pair-at t) compile-pair.Post
+compile-pair-shared-slice-read-join-node : (t : ℕ) → compile-pair-lts.Need-shared-slice-read-join-node (compile-pair-claims t) (compile-pair-at t) compile-pair.Post
 compile-pair-shared-slice-read-join-node t c = search (needs, ready-in-ops)
 
-compile-pair-join-node-requires : (t : ℕ) → compile-pair-lts.Need-join-node-requires (
-  join-node-reads.Asked,
-  join-node-reads.Learnt,
-  put-node-reads.Asked,
-  put-node-reads.Learnt,
-  compile-check-below t,
-  compile-check.Post,
-) (compile-pair-at t) compile-pair.Post
+compile-pair-join-node-requires : (t : ℕ) → compile-pair-lts.Need-join-node-requires (compile-pair-claims t) (compile-pair-at t) compile-pair.Post
 compile-pair-join-node-requires t c κs = search needs
 
-compile-pair-put-node-requires : (t : ℕ) → compile-pair-lts.Need-put-node-requires (
-  join-node-reads.Asked,
-  join-node-reads.Learnt,
-  put-node-reads.Asked,
-  put-node-reads.Learnt,
-  compile-check-below t,
-  compile-check.Post,
-) (compile-pair-at t) compile-pair.Post
+compile-pair-put-node-requires : (t : ℕ) → compile-pair-lts.Need-put-node-requires (compile-pair-claims t) (compile-pair-at t) compile-pair.Post
 compile-pair-put-node-requires t c κs = search (needs, ready-room, join-numbered)
 
-compile-pair-add-compile-check : (t : ℕ) → compile-pair-lts.Need-add-compile-check (
-  join-node-reads.Asked,
-  join-node-reads.Learnt,
-  put-node-reads.Asked,
-  put-node-reads.Learnt,
-  compile-check-below t,
-  compile-check.Post,
-) (compile-pair-at t) compile-pair.Post
+compile-pair-add-compile-check : (t : ℕ) → compile-pair-lts.Need-add-compile-check (compile-pair-claims t) (compile-pair-at t) compile-pair.Post
 compile-pair-add-compile-check t c = search needs
 
-compile-pair-add-compile-check-2 : (t : ℕ) → compile-pair-lts.Need-add-compile-check-2 (
-  join-node-reads.Asked,
-  join-node-reads.Learnt,
-  put-node-reads.Asked,
-  put-node-reads.Learnt,
-  compile-check-below t,
-  compile-check.Post,
-) (compile-pair-at t) compile-pair.Post
+compile-pair-add-compile-check-2 : (t : ℕ) → compile-pair-lts.Need-add-compile-check-2 (compile-pair-claims t) (compile-pair-at t) compile-pair.Post
 compile-pair-add-compile-check-2 t c = search needs
 
-compile-pair-compile-check-requires : (t : ℕ) → compile-pair-lts.Need-compile-check-requires (
-  join-node-reads.Asked,
-  join-node-reads.Learnt,
-  put-node-reads.Asked,
-  put-node-reads.Learnt,
-  compile-check-below t,
-  compile-check.Post,
-) (compile-pair-at t) compile-pair.Post
+compile-pair-compile-check-requires : (t : ℕ) → compile-pair-lts.Need-compile-check-requires (compile-pair-claims t) (compile-pair-at t) compile-pair.Post
 compile-pair-compile-check-requires t c κs = search (needs, ready-left, falls-from-part)
 
-compile-pair-enum-known-left : (t : ℕ) → compile-pair-lts.Need-enum-known-left (
-  join-node-reads.Asked,
-  join-node-reads.Learnt,
-  put-node-reads.Asked,
-  put-node-reads.Learnt,
-  compile-check-below t,
-  compile-check.Post,
-) (compile-pair-at t) compile-pair.Post
+compile-pair-enum-known-left : (t : ℕ) → compile-pair-lts.Need-enum-known-left (compile-pair-claims t) (compile-pair-at t) compile-pair.Post
 compile-pair-enum-known-left t c = search needs
 
-compile-pair-enum-told : (t : ℕ) → compile-pair-lts.Need-enum-told (
-  join-node-reads.Asked,
-  join-node-reads.Learnt,
-  put-node-reads.Asked,
-  put-node-reads.Learnt,
-  compile-check-below t,
-  compile-check.Post,
-) (compile-pair-at t) compile-pair.Post
+compile-pair-enum-told : (t : ℕ) → compile-pair-lts.Need-enum-told (compile-pair-claims t) (compile-pair-at t) compile-pair.Post
 compile-pair-enum-told t c = search needs
 
-compile-pair-same-length : (t : ℕ) → compile-pair-lts.Need-same-length (
-  join-node-reads.Asked,
-  join-node-reads.Learnt,
-  put-node-reads.Asked,
-  put-node-reads.Learnt,
-  compile-check-below t,
-  compile-check.Post,
-) (compile-pair-at t) compile-pair.Post
+compile-pair-same-length : (t : ℕ) → compile-pair-lts.Need-same-length (compile-pair-claims t) (compile-pair-at t) compile-pair.Post
 compile-pair-same-length t c = search needs
 
-compile-pair-returns : (t : ℕ) → compile-pair-lts.Need-returns (
-  join-node-reads.Asked,
-  join-node-reads.Learnt,
-  put-node-reads.Asked,
-  put-node-reads.Learnt,
-  compile-check-below t,
-  compile-check.Post,
-) (compile-pair-at t) compile-pair.Post
+compile-pair-returns : (t : ℕ) → compile-pair-lts.Need-returns (compile-pair-claims t) (compile-pair-at t) compile-pair.Post
 compile-pair-returns t c = search (needs, pair-refused)
 
-compile-pair-compile-check-requires-2 : (t : ℕ) → compile-pair-lts.Need-compile-check-requires-2 (
-  join-node-reads.Asked,
-  join-node-reads.Learnt,
-  put-node-reads.Asked,
-  put-node-reads.Learnt,
-  compile-check-below t,
-  compile-check.Post,
-) (compile-pair-at t) compile-pair.Post
+compile-pair-compile-check-requires-2 : (t : ℕ) → compile-pair-lts.Need-compile-check-requires-2 (compile-pair-claims t) (compile-pair-at t) compile-pair.Post
 compile-pair-compile-check-requires-2 t c κs = (
   falls-right _ _ _ _ _ (c .before .before .before .before .before .before .before .before .before .before .before .before .before .before .before .before .before .pre .1 .1) (c .before .before .before .before .before .before .before .before .before .before .before .before .before .before .before .before .before .pre .1 .2) _ _ _ _ (c .before .before .before .before .before .before .before .before .before .before .before .join-node .ensures) (c .before .before .before .before .before .before .before .before .before .before .put-node .ensures) _ _ (c .before .before .before .before .before .before .compile-check .ensures) (c .before .before .left .given .0 .0) (c .before .before .left .given .0 .1 .0) (search needs) t (c .before .before .before .before .before .before .before .before .before .before .before .before .before .before .before .before .before .pre .1 .0) (c .before .before .before .before .before .before .before .before .before .before .before .before .before .before .before .before .before .pre .0),
   ready-right _ _ _ _ _ (c .before .before .before .before .before .before .before .before .before .before .before .before .before .before .before .before .before .pre .1 .1) (c .before .before .before .before .before .before .before .before .before .before .before .before .before .before .before .before .before .pre .1 .2) _ _ _ _ (c .before .before .before .before .before .before .before .before .before .before .before .join-node .ensures) (c .before .before .before .before .before .before .before .before .before .before .put-node .ensures) _ _ (c .before .before .before .before .before .before .compile-check .ensures) (c .before .before .left .given .0 .0) (c .before .before .left .given .0 .1 .0) (search needs) (c .before .before .before .before .before .before .before .before .before .before .before .before .before .before .before .before .before .pre .1 .0),
 )
 
-compile-pair-same-length-2 : (t : ℕ) → compile-pair-lts.Need-same-length-2 (
-  join-node-reads.Asked,
-  join-node-reads.Learnt,
-  put-node-reads.Asked,
-  put-node-reads.Learnt,
-  compile-check-below t,
-  compile-check.Post,
-) (compile-pair-at t) compile-pair.Post
+compile-pair-same-length-2 : (t : ℕ) → compile-pair-lts.Need-same-length-2 (compile-pair-claims t) (compile-pair-at t) compile-pair.Post
 compile-pair-same-length-2 t c = search needs
 
-compile-pair-returns-2 : (t : ℕ) → compile-pair-lts.Need-returns-2 (
-  join-node-reads.Asked,
-  join-node-reads.Learnt,
-  put-node-reads.Asked,
-  put-node-reads.Learnt,
-  compile-check-below t,
-  compile-check.Post,
-) (compile-pair-at t) compile-pair.Post
+compile-pair-returns-2 : (t : ℕ) → compile-pair-lts.Need-returns-2 (compile-pair-claims t) (compile-pair-at t) compile-pair.Post
 compile-pair-returns-2 t c = search (needs, pair-laid)
 
 pub +compile-always-for+compile-check+compile-pair-spec : {M : Type 1} → statement M
 +compile-always-for+compile-check+compile-pair-spec =
-    close μ-compile-always-for μ-compile-check μ-compile-pair (λ t. compile-always-for-lts.spec (
-      upto-reads.Asked,
-      upto-reads.Learnt,
-      compile-check-below t,
-      compile-check.Post,
-    )
-    (compile-always-for-at t)
-    compile-always-for.Post
+    close μ-compile-always-for μ-compile-check μ-compile-pair (λ t. compile-always-for-lts.spec (compile-always-for-claims t) (compile-always-for-at t) compile-always-for.Post
     (compile-always-for-returns t)
     (compile-always-for-mul-b t)
     (compile-always-for-shared-slice-read-b t)
@@ -878,26 +263,7 @@ pub +compile-always-for+compile-check+compile-pair-spec : {M : Type 1} → state
     (compile-always-for-compile-check-requires t)
     (compile-always-for-same-length t)
     (compile-always-for-returns-3 t))
-    (λ t. compile-check-lts.spec (
-      compile-not-reads.Asked,
-      compile-not-reads.Learnt,
-      compile-next-reads.Asked,
-      compile-next-reads.Learnt,
-      compile-check-below t,
-      compile-check.Post,
-      compile-always-for-below t,
-      compile-always-for.Post,
-      compile-within-reads.Asked,
-      compile-within-reads.Learnt,
-      compile-implies-reads.Asked,
-      compile-implies-reads.Learnt,
-      compile-atom-reads.Asked,
-      compile-atom-reads.Learnt,
-      compile-pair-below t,
-      compile-pair.Post,
-    )
-    (compile-check-at t)
-    compile-check.Post
+    (λ t. compile-check-lts.spec (compile-check-claims t) (compile-check-at t) compile-check.Post
     (compile-check-shared-slice-read-match t)
     (compile-check-compile-not-requires t)
     (compile-check-compile-next-requires t)
@@ -926,16 +292,7 @@ pub +compile-always-for+compile-check+compile-pair-spec : {M : Type 1} → state
     (compile-check-returns-8 t)
     (compile-check-returns-9 t)
     (compile-check-returns-10 t))
-    λ t. compile-pair-lts.spec (
-      join-node-reads.Asked,
-      join-node-reads.Learnt,
-      put-node-reads.Asked,
-      put-node-reads.Learnt,
-      compile-check-below t,
-      compile-check.Post,
-    )
-    (compile-pair-at t)
-    compile-pair.Post
+    λ t. compile-pair-lts.spec (compile-pair-claims t) (compile-pair-at t) compile-pair.Post
     (compile-pair-shared-slice-read-join-node t)
     (compile-pair-join-node-requires t)
     (compile-pair-put-node-requires t)

@@ -4,16 +4,16 @@ use Rattle.compiler.proofs.compile_implies.Statement.{statement}
 use Rattle.compiler.proofs.compile_implies.Tie as tie
 use Rattle.compiler.proofs.compile_implies.Reads as reads
 use Rattle.compiler.proofs.compile_implies.Lts as lts
-use Rattle.formula.proofs.signal.pure_at.Reads as pure-at-reads
+use Rattle.formula.proofs.signal.boolean_over_atoms.Reads as boolean-over-atoms-reads
 use Rattle.compiler.proofs.compile_delayed.Reads as compile-delayed-reads
 use Rattle.compiler.proofs.compile_owed.Reads as compile-owed-reads
 use Rattle.compiler.proofs.compile_pure_implies.Reads as compile-pure-implies-reads
 
-add-pure-at : tie.Need-add-pure-at
-add-pure-at c = search needs
+add-boolean-over-atoms : tie.Need-add-boolean-over-atoms
+add-boolean-over-atoms c = search needs
 
-pure-at-requires : tie.Need-pure-at-requires
-pure-at-requires c κs = search (needs, placed-antecedent)
+boolean-over-atoms-requires : tie.Need-boolean-over-atoms-requires
+boolean-over-atoms-requires c κs = search (needs, placed-antecedent)
 
 enum-known-j : tie.Need-enum-known-j
 enum-known-j c = search needs
@@ -58,8 +58,8 @@ pub compile-implies-spec : {M : Type 1} → statement M
 compile-implies-spec =
     tie.close
     (tie.spec
-    add-pure-at
-    pure-at-requires
+    add-boolean-over-atoms
+    boolean-over-atoms-requires
     enum-known-j
     enum-told
     returns

@@ -1,54 +1,37 @@
-use Rattle.compiler.proofs.Compiling.{placed-of-next, ready-room, next-fits, next-refused, next-laid}
+use Rattle.compiler.proofs.Compiling.{placed-of-next, ready-room, next-fits, next-laid}
 use borrow.Author.Needs.{needs}
 use Rattle.compiler.proofs.compile_next.Statement.{statement}
 use Rattle.compiler.proofs.compile_next.Tie as tie
 use Rattle.compiler.proofs.compile_next.Reads as reads
 use Rattle.compiler.proofs.compile_next.Lts as lts
-use Rattle.formula.proofs.signal.pure_at.Reads as pure-at-reads
-use Rattle.compiler.proofs.lay.Reads as lay-reads
+use Rattle.compiler.proofs.lay_if_pure.Reads as lay-if-pure-reads
 use Rattle.monitor.proofs.range.AnchorRange.shifted.Reads as shifted-reads
 
-add-pure-at : tie.Need-add-pure-at
-add-pure-at c = search needs
-
-pure-at-requires : tie.Need-pure-at-requires
-pure-at-requires c κs = search (needs, placed-of-next)
-
-enum-known-e : tie.Need-enum-known-e
-enum-known-e c = search needs
-
-enum-told : tie.Need-enum-told
-enum-told c = search needs
-
-returns : tie.Need-returns
-returns c = search (needs, next-refused)
-
-add-t11 : tie.Need-add-t11
-add-t11 c = search needs
+add-lay-if-pure : tie.Need-add-lay-if-pure
+add-lay-if-pure c = search needs
 
 shifted-requires : tie.Need-shifted-requires
 shifted-requires c κs = search needs
 
-lay-requires : tie.Need-lay-requires
-lay-requires c κs = search (needs, ready-room, next-fits, placed-of-next)
+add-lay-if-pure-2 : tie.Need-add-lay-if-pure-2
+add-lay-if-pure-2 c = search needs
+
+lay-if-pure-requires : tie.Need-lay-if-pure-requires
+lay-if-pure-requires c κs = search (needs, placed-of-next, ready-room, next-fits)
 
 same-length : tie.Need-same-length
 same-length c = search needs
 
-returns-2 : tie.Need-returns-2
-returns-2 c = search (needs, next-laid)
+returns : tie.Need-returns
+returns c = search (needs, next-laid)
 
 pub compile-next-spec : {M : Type 1} → statement M
 compile-next-spec =
     tie.close
     (tie.spec
-    add-pure-at
-    pure-at-requires
-    enum-known-e
-    enum-told
-    returns
-    add-t11
+    add-lay-if-pure
     shifted-requires
-    lay-requires
+    add-lay-if-pure-2
+    lay-if-pure-requires
     same-length
-    returns-2)
+    returns)

@@ -1,66 +1,49 @@
-use Rattle.compiler.proofs.Compiling.{antecedent-fits, behind-fits, consequent-fits, consequent-nums, implied-room, owed-laid, owed-refused, placed-owed}
+use Rattle.compiler.proofs.Compiling.{placed-owed, implied-room, antecedent-fits, consequent-fits, owed-laid, consequent-nums, behind-fits}
 use borrow.Author.Needs.{needs}
 use Rattle.compiler.proofs.compile_owed.Statement.{statement}
 use Rattle.compiler.proofs.compile_owed.Tie as tie
 use Rattle.compiler.proofs.compile_owed.Reads as reads
 use Rattle.compiler.proofs.compile_owed.Lts as lts
-use Rattle.formula.proofs.signal.pure_at.Reads as pure-at-reads
 use Rattle.compiler.proofs.anchored.Reads as anchored-reads
-use Rattle.compiler.proofs.lay.Reads as lay-reads
+use Rattle.compiler.proofs.lay_if_pure.Reads as lay-if-pure-reads
 
-add-pure-at : tie.Need-add-pure-at
-add-pure-at c = search (needs, behind-fits)
+mul-t10 : tie.Need-mul-t10
+mul-t10 c = search (needs, consequent-nums)
 
-pure-at-requires : tie.Need-pure-at-requires
-pure-at-requires c κs = search (needs, placed-owed)
+shared-slice-read-t12 : tie.Need-shared-slice-read-t12
+shared-slice-read-t12 c = search (needs, consequent-nums)
 
-enum-known-e : tie.Need-enum-known-e
-enum-known-e c = search needs
-
-enum-told : tie.Need-enum-told
-enum-told c = search needs
-
-returns : tie.Need-returns
-returns c = search (needs, owed-refused)
-
-mul-t12 : tie.Need-mul-t12
-mul-t12 c = search (needs, consequent-nums)
-
-shared-slice-read-t14 : tie.Need-shared-slice-read-t14
-shared-slice-read-t14 c = search (needs, consequent-nums)
+add-t13 : tie.Need-add-t13
+add-t13 c = search needs
 
 add-t15 : tie.Need-add-t15
-add-t15 c = search needs
-
-add-t17 : tie.Need-add-t17
-add-t17 c = search (needs, behind-fits)
+add-t15 c = search (needs, behind-fits)
 
 anchored-requires : tie.Need-anchored-requires
 anchored-requires c κs = search needs
 
-lay-requires : tie.Need-lay-requires
-lay-requires c κs = search (needs, implied-room, antecedent-fits, consequent-fits, placed-owed)
+add-lay-if-pure : tie.Need-add-lay-if-pure
+add-lay-if-pure c = search (needs, behind-fits)
+
+lay-if-pure-requires : tie.Need-lay-if-pure-requires
+lay-if-pure-requires c κs = search (needs, placed-owed, implied-room, antecedent-fits, consequent-fits)
 
 same-length : tie.Need-same-length
 same-length c = search needs
 
-returns-2 : tie.Need-returns-2
-returns-2 c = search (needs, owed-laid)
+returns : tie.Need-returns
+returns c = search (needs, owed-laid)
 
 pub compile-owed-spec : {M : Type 1} → statement M
 compile-owed-spec =
     tie.close
     (tie.spec
-    add-pure-at
-    pure-at-requires
-    enum-known-e
-    enum-told
-    returns
-    mul-t12
-    shared-slice-read-t14
+    mul-t10
+    shared-slice-read-t12
+    add-t13
     add-t15
-    add-t17
     anchored-requires
-    lay-requires
+    add-lay-if-pure
+    lay-if-pure-requires
     same-length
-    returns-2)
+    returns)

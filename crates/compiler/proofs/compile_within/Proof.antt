@@ -1,62 +1,45 @@
-use Rattle.compiler.proofs.Compiling.{placed-of-within, ready-room, next-fits, within-refused, within-laid, ready-in-nums}
+use Rattle.compiler.proofs.Compiling.{placed-of-within, ready-room, next-fits, within-laid, ready-in-nums}
 use borrow.Author.Needs.{needs}
 use Rattle.compiler.proofs.compile_within.Statement.{statement}
 use Rattle.compiler.proofs.compile_within.Tie as tie
 use Rattle.compiler.proofs.compile_within.Reads as reads
 use Rattle.compiler.proofs.compile_within.Lts as lts
-use Rattle.formula.proofs.signal.pure_at.Reads as pure-at-reads
 use Rattle.compiler.proofs.anchored.Reads as anchored-reads
-use Rattle.compiler.proofs.lay.Reads as lay-reads
+use Rattle.compiler.proofs.lay_if_pure.Reads as lay-if-pure-reads
 
-add-pure-at : tie.Need-add-pure-at
-add-pure-at c = search needs
+mul-t9 : tie.Need-mul-t9
+mul-t9 c = search needs
 
-pure-at-requires : tie.Need-pure-at-requires
-pure-at-requires c κs = search (needs, placed-of-within)
+shared-slice-read-t11 : tie.Need-shared-slice-read-t11
+shared-slice-read-t11 c = search (needs, ready-in-nums)
 
-enum-known-e : tie.Need-enum-known-e
-enum-known-e c = search needs
-
-enum-told : tie.Need-enum-told
-enum-told c = search needs
-
-returns : tie.Need-returns
-returns c = search (needs, within-refused)
-
-mul-t11 : tie.Need-mul-t11
-mul-t11 c = search needs
-
-shared-slice-read-t13 : tie.Need-shared-slice-read-t13
-shared-slice-read-t13 c = search (needs, ready-in-nums)
-
-add-t15 : tie.Need-add-t15
-add-t15 c = search needs
+add-t13 : tie.Need-add-t13
+add-t13 c = search needs
 
 anchored-requires : tie.Need-anchored-requires
 anchored-requires c κs = search needs
 
-lay-requires : tie.Need-lay-requires
-lay-requires c κs = search (needs, ready-room, next-fits, placed-of-within)
+add-lay-if-pure : tie.Need-add-lay-if-pure
+add-lay-if-pure c = search needs
+
+lay-if-pure-requires : tie.Need-lay-if-pure-requires
+lay-if-pure-requires c κs = search (needs, placed-of-within, ready-room, next-fits)
 
 same-length : tie.Need-same-length
 same-length c = search needs
 
-returns-2 : tie.Need-returns-2
-returns-2 c = search (needs, within-laid)
+returns : tie.Need-returns
+returns c = search (needs, within-laid)
 
 pub compile-within-spec : {M : Type 1} → statement M
 compile-within-spec =
     tie.close
     (tie.spec
-    add-pure-at
-    pure-at-requires
-    enum-known-e
-    enum-told
-    returns
-    mul-t11
-    shared-slice-read-t13
-    add-t15
+    mul-t9
+    shared-slice-read-t11
+    add-t13
     anchored-requires
-    lay-requires
+    add-lay-if-pure
+    lay-if-pure-requires
     same-length
-    returns-2)
+    returns)

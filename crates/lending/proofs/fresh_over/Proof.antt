@@ -50,11 +50,11 @@ use denote.Exit.{yes}
 use denote.Triple.Clauses.{ensured, lasts}
 use Rattle.lent.specs.Lent.{LentTables}
 use Rattle.stepping.specs.declared.fresh.Outcome.{Outcome}
-use Rattle.in_place.specs.declared.Monitor.{Monitor}
+use Rattle.in_place.specs.declared.ReferenceMonitor.{ReferenceMonitor}
 use Rattle.in_place.specs.declared.fresh.Started.{Started}
 use Rattle.in_place.specs.InPlace.{freshIn}
-use Rattle.in_place.proofs.Monitor as T
-use Rattle.in_place.proofs.Monitor.Laws as T′
+use Rattle.in_place.proofs.ReferenceMonitor as T
+use Rattle.in_place.proofs.ReferenceMonitor.Laws as T′
 use Rattle.in_place.proofs.fresh.Started as O
 use Rattle.in_place.proofs.fresh.Started.Laws as O′
 use Rattle.node_table.specs.declared.FormulaNode.{FormulaNode}
@@ -62,7 +62,7 @@ use Rattle.node_table.proofs.FormulaNode as N
 use Rattle.node_table.proofs.FormulaNode.Laws as N′
 use Rattle.stepping.proofs.fresh.Outcome as R
 use Rattle.stepping.proofs.fresh.Outcome.Laws as R′
-use Rattle.table_step.specs.Over.{over}
+use Rattle.table_step.specs.Over.{tablesOver}
 use Rattle.table_step.proofs.Told.{told-last}
 use Rattle.table_step.proofs.fresh_table as fresh
 use Rattle.table_step.proofs.fresh_table.Symbol as fresh-def
@@ -82,7 +82,7 @@ stayed = (stay-none (λ _. T.the-row) yes, (stay-none (λ _. Nodes) yes, (stay-n
 abbrev Called : {M : Type 1} (𝓤 : URA M) (H : Heap 𝓤) (A : Atoms 𝓤) (mem : Memory → SProp 𝓤) (run : Routine → Fun 𝓤) → Contract 𝓤
 Called 𝓤 H A mem run = tripleOf 𝓤 H A fresh.signature (fresh.spec 𝓤 H A mem run)
 
-module _ {M : Type 1} (𝓤 : URA M) (H : Heap 𝓤) (A : Atoms 𝓤) (W : Given 𝓤 H A) (at-mem : Memory → SProp 𝓤) (run : Routine → Fun 𝓤) (κ : Lft) (bounds : AllOutlive 1 (called.signature .outlives) (κ, tt)) (q : Share) (h : Monitor) (table : List FormulaNode) (first count : ℕ) (nodes : RefT (List ℕ)) (nfirst ncount : ℕ) where
+module _ {M : Type 1} (𝓤 : URA M) (H : Heap 𝓤) (A : Atoms 𝓤) (W : Given 𝓤 H A) (at-mem : Memory → SProp 𝓤) (run : Routine → Fun 𝓤) (κ : Lft) (bounds : AllOutlive 1 (called.signature .outlives) (κ, tt)) (q : Share) (h : ReferenceMonitor) (table : List FormulaNode) (first count : ℕ) (nodes : RefT (List ℕ)) (nfirst ncount : ℕ) where
   -- the parameters beside the monitor and the table: their types, values and machine values
   abbrev Rs : List RattleType
   Rs = usize ∷ usize ∷ ShrSlice (named 0) κ u64 ∷ usize ∷ usize ∷ []
@@ -97,7 +97,7 @@ module _ {M : Type 1} (𝓤 : URA M) (H : Heap 𝓤) (A : Atoms 𝓤) (W : Given
   copies = (uint-copy 𝓤 H A W w64, (uint-copy 𝓤 H A W w64, (shr-slice-copy 𝓤 H A W (named 0) κ u64, (uint-copy 𝓤 H A W w64, (uint-copy 𝓤 H A W w64, tt)))))
 
   abbrev tables : LentTables
-  tables = over table first count (now nodes) nfirst ncount
+  tables = tablesOver table first count (now nodes) nfirst ncount
 
   -- the answer
   abbrev out : Started
@@ -119,7 +119,7 @@ module _ {M : Type 1} (𝓤 : URA M) (H : Heap 𝓤) (A : Atoms 𝓤) (W : Given
   -- the call, with the monitor lent at (b, 0) for α and the table at (c, 0) for β: what it is passed, what it asks, and what is known of its answer
   -- and of the monitor afterwards
   module _ (α b : ℕ) (γ : GName) (β c : ℕ) (δ : GName) where
-    abbrev m : RefT Monitor
+    abbrev m : RefT ReferenceMonitor
     m = record { ptr = (b, 0); name = γ; now = h }
 
     abbrev t : RefT (List FormulaNode)

@@ -35,7 +35,7 @@ use denote.Triple.Entry.{Vals, onEntry}
 use denote.Triple.Spec.{Meets, tripleOf}
 use denote.Triple.Table.{entered}
 use denote.Triple.Walked.{says, needs, Stays, stay-none-slice, stay-none, walkOf, Walks, ends-at, walked, goes-none-slice, goes-none, walk-meets}
-use Rattle.node_table.specs.Node.{blank, nodeOf}
+use Rattle.node_table.specs.Node.{blank, structAt}
 use Rattle.node_table.specs.declared.FormulaNode.{FormulaNode}
 use Rattle.node_table.proofs.FormulaNode as T
 use Rattle.node_table.proofs.FormulaNode.Laws as T′
@@ -58,7 +58,7 @@ module _ {M : Type 1} (𝓤 : URA M) (H : Heap 𝓤) (A : Atoms 𝓤) (W : Given
   s = record { ptr = (b, o); name = γ; now = ys }
 
   abbrev elem : FormulaNode
-  elem = nodeOf ys i
+  elem = structAt ys i
 
   abbrev at : Vals node-at.signature (κ, tt)
   at = (sliceVal (b, o) (length ys) ∷ [], (vint w64 i ∷ [], tt))

@@ -48,12 +48,12 @@ use denote.Triple.Entry.{Vals, onEntry}
 use denote.Triple.Spec.{Meets, tripleOf}
 use denote.Triple.Table.{entered, cited}
 use denote.Triple.Walked.{says, Stays, stay-none-slice, stay-none, walkOf, Walks, ends-at, walked, goes-none-slice, goes-none, walk-meets}
-use Rattle.node_table.specs.Node.{nodeOf, opsOf, numsOf}
-use Rattle.node_table.specs.Columns.{within, endOf, HoldsColumn, Unpacked}
+use Rattle.node_table.specs.Node.{structAt, opsOf, numsOf}
+use Rattle.node_table.specs.Columns.{capped, endOf, HoldsColumn, Unpacked}
 use Rattle.node_table.specs.declared.FormulaNode.{FormulaNode}
 use Rattle.node_table.specs.declared.Columns.{Columns}
 use Rattle.node_table.proofs.Arrays.{A8, A64, val8, val64, apart, together}
-use Rattle.node_table.proofs.Filling.{within-all, within-lent, end-inside, holds-next}
+use Rattle.node_table.proofs.Filling.{capped-all, capped-lent, end-inside, holds-next}
 use Rattle.node_table.proofs.FormulaNode as N
 use Rattle.node_table.proofs.FormulaNode.Laws as N′
 use Rattle.node_table.proofs.Columns as T
@@ -99,11 +99,11 @@ record State (ys : List FormulaNode) (first : ℕ) : Type 0 where
 abbrev next : (ys : List FormulaNode) (first : ℕ) (σ : State ys first) → σ .i < 1024 → State ys first
 next ys first σ less = record {
   i = σ .i + 1;
-  os = set (σ .os) (σ .i) (nodeOf ys (σ .i) .op);
-  ns = set (σ .ns) (σ .i) (nodeOf ys (σ .i) .num);
+  os = set (σ .os) (σ .i) (structAt ys (σ .i) .op);
+  ns = set (σ .ns) (σ .i) (structAt ys (σ .i) .num);
   from-first = omega (arith, σ .from-first);
-  ops-room = length-set (σ .os) (σ .i) (nodeOf ys (σ .i) .op) ∙ σ .ops-room;
-  nums-room = length-set (σ .ns) (σ .i) (nodeOf ys (σ .i) .num) ∙ σ .nums-room;
+  ops-room = length-set (σ .os) (σ .i) (structAt ys (σ .i) .op) ∙ σ .ops-room;
+  nums-room = length-set (σ .ns) (σ .i) (structAt ys (σ .i) .num) ∙ σ .nums-room;
   ops-are = holds-next (λ x. x .op) refl ys (σ .os) first (σ .i) (σ .from-first) (omega (arith, σ .ops-room)) (σ .ops-are);
   nums-are = holds-next (λ x. x .num) refl ys (σ .ns) first (σ .i) (σ .from-first) (omega (arith, σ .nums-room)) (σ .nums-are);
 }
@@ -118,7 +118,7 @@ abbrev made : (ys : List FormulaNode) (first n : ℕ) → State ys first → Col
 made ys first n σ = record { count = n; ops = σ .os; nums = σ .ns }
 
 -- the columns where the loop is left
-unpacked : (ys : List FormulaNode) (first count n : ℕ) (σ : State ys first) → n ≡ within (length ys) → n ≤ 1024 → endOf n first count ≤ σ .i → Unpacked ys first count (made ys first n σ)
+unpacked : (ys : List FormulaNode) (first count n : ℕ) (σ : State ys first) → n ≡ capped (length ys) → n ≤ 1024 → endOf n first count ≤ σ .i → Unpacked ys first count (made ys first n σ)
 unpacked ys first count n σ e few over = record {
   lent = e;
   inside = record { ops = omega (arith, σ .ops-room); nums = omega (arith, σ .nums-room) };
@@ -135,8 +135,8 @@ module _ {M : Type 1} (𝓤 : URA M) (H : Heap 𝓤) (A : Atoms 𝓤) (mem : Mem
   abbrev For : Contract 𝓤
   For = tripleOf 𝓤 H A columns-for.signature (columns-for.spec 𝓤 H A mem run)
 
-  for-of : (n : ℕ) (r : Columns) → ent 𝓤 (ensured 𝓤 H A columns-for.ended (columns-for.clauses 𝓤 H A mem run) tt (n, tt) tt r) (fact 𝓤 (r .count ≡ within n))
-  for-of n r = exE 𝓤 _ (λ ws. snd∗ 𝓤 (sem 𝓤 H A (lasts columns-for.ended tt (n, tt) ws)) (fact 𝓤 (r .count ≡ within n)))
+  for-of : (n : ℕ) (r : Columns) → ent 𝓤 (ensured 𝓤 H A columns-for.ended (columns-for.clauses 𝓤 H A mem run) tt (n, tt) tt r) (fact 𝓤 (r .count ≡ capped n))
+  for-of n r = exE 𝓤 _ (λ ws. snd∗ 𝓤 (sem 𝓤 H A (lasts columns-for.ended tt (n, tt) ws)) (fact 𝓤 (r .count ≡ capped n)))
 
   abbrev EndOf : Contract 𝓤
   EndOf = tripleOf 𝓤 H A end-of.signature (end-of.spec 𝓤 H A mem run)
@@ -147,8 +147,8 @@ module _ {M : Type 1} (𝓤 : URA M) (H : Heap 𝓤) (A : Atoms 𝓤) (mem : Mem
   abbrev NodeAt : Contract 𝓤
   NodeAt = tripleOf 𝓤 H A node-at.signature (node-at.spec 𝓤 H A mem run)
 
-  node-of : (κ : Lft) (s : RefT (List FormulaNode)) (i : ℕ) (r : FormulaNode) → ent 𝓤 (ensured 𝓤 H A node-at.ended (node-at.clauses 𝓤 H A mem run) (κ, tt) (s, (i, tt)) tt r) (fact 𝓤 (r ≡ nodeOf (s .now) i))
-  node-of κ s i r = exE 𝓤 _ (λ ws. snd∗ 𝓤 (sem 𝓤 H A (lasts node-at.ended (κ, tt) (s, (i, tt)) ws)) (fact 𝓤 (r ≡ nodeOf (s .now) i)))
+  node-of : (κ : Lft) (s : RefT (List FormulaNode)) (i : ℕ) (r : FormulaNode) → ent 𝓤 (ensured 𝓤 H A node-at.ended (node-at.clauses 𝓤 H A mem run) (κ, tt) (s, (i, tt)) tt r) (fact 𝓤 (r ≡ structAt (s .now) i))
+  node-of κ s i r = exE 𝓤 _ (λ ws. snd∗ 𝓤 (sem 𝓤 H A (lasts node-at.ended (κ, tt) (s, (i, tt)) ws)) (fact 𝓤 (r ≡ structAt (s .now) i)))
 
 module _ {M : Type 1} (𝓤 : URA M) (H : Heap 𝓤) (A : Atoms 𝓤) (W : Given 𝓤 H A) (mem : Memory → SProp 𝓤) (run : Routine → Fun 𝓤) (κ : Lft) (q : Share) (b o : ℕ) (γ : GName) (ys : List FormulaNode) (first count : ℕ)
     (gn : Room N.the-row (length ys)) (gf : first < 2 ^ 64) (gk : count < 2 ^ 64) where
@@ -183,7 +183,7 @@ module _ {M : Type 1} (𝓤 : URA M) (H : Heap 𝓤) (A : Atoms 𝓤) (W : Given
   abbrev a64 : Ty
   a64 = tyArray (tyInt w64) 1024
 
-  module _ (𝓣 : Tables 𝓤 H) (fm : FmC 𝓤 H (W .laws) (𝓣 .C)) (known-at : Triple 𝓤 (𝓣 .C #node-at) (NodeAt 𝓤 H A mem run)) (c : Columns) (is-for : c .count ≡ within (length ys)) (end : ℕ) (is-end : end ≡ endOf (c .count) first count)
+  module _ (𝓣 : Tables 𝓤 H) (fm : FmC 𝓤 H (W .laws) (𝓣 .C)) (known-at : Triple 𝓤 (𝓣 .C #node-at) (NodeAt 𝓤 H A mem run)) (c : Columns) (is-for : c .count ≡ capped (length ys)) (end : ℕ) (is-end : end ≡ endOf (c .count) first count)
       (l₀ l₁ l₂ l₃ l₄ l₅ l₆ l₇ l₈ l₉ l₁₀ l₁₁ l₁₂ l₁₃ l₁₄ l₁₅ l₁₆ l₁₇ l₁₈ : ℕ) where
     abbrev C : Calls 𝓤 H
     C = 𝓣 .C
@@ -195,10 +195,10 @@ module _ {M : Type 1} (𝓤 : URA M) (H : Heap 𝓤) (A : Atoms 𝓤) (W : Given
     n = c .count
 
     few : n ≤ 1024
-    few = subst (λ (k : ℕ). k ≤ 1024) (sym is-for) (within-all (length ys))
+    few = subst (λ (k : ℕ). k ≤ 1024) (sym is-for) (capped-all (length ys))
 
     lent : n ≤ length ys
-    lent = subst (λ (k : ℕ). k ≤ length ys) (sym is-for) (within-lent (length ys))
+    lent = subst (λ (k : ℕ). k ≤ length ys) (sym is-for) (capped-lent (length ys))
 
     -- a place that is read is one of the nodes that are lent
     reads : (σ : State ys first) → σ .i < end → σ .i < n
@@ -229,7 +229,7 @@ module _ {M : Type 1} (𝓤 : URA M) (H : Heap 𝓤) (A : Atoms 𝓤) (W : Given
 
     -- the node that a turn reads
     abbrev x : State ys first → FormulaNode
-    x σ = nodeOf ys (σ .i)
+    x σ = structAt ys (σ .i)
 
     abbrev to-at : State ys first → NodeAt 𝓤 H A mem run .Ghost
     to-at σ = (((κ, tt), (q, tt), tt, (s, (σ .i, tt)), (sv ∷ [], (vint w64 (σ .i) ∷ [], tt))), tt)
@@ -398,7 +398,7 @@ module _ {M : Type 1} (𝓤 : URA M) (H : Heap 𝓤) (A : Atoms 𝓤) (W : Given
       owned ! usize (Is usize) (uint-makes 𝓤 H A W w64) (length ys) _ (refl, gn .0) $ use1 W (raw (For 𝓤 H A mem run .pre to-for)) goes-for $
       calls-at ! fm (For 𝓤 H A mem run) known-for to-for (and-then ! (load ! (from ! (stop !)) (look ! 17 refl)) (no-more !)) (λ v.
       use1 W (later (some (λ (c : Columns). (‵ ftrue ⊛ ‵ (T.the-row .own c (v ∷ []))) ⊛ raw (ensured 𝓤 H A columns-for.ended (columns-for.clauses 𝓤 H A mem run) tt (length ys, tt) tt c)))) (id⊢ 𝓤 _) $ await ! tt $ pick ! (λ c.
-      split ! $ move ! (1 ∷ []) $ use1 W (raw (fact 𝓤 (c .count ≡ within (length ys)))) (for-of 𝓤 H A mem run (length ys) c) $ heard ! (c .count ≡ within (length ys)) (λ e. split ! $ drop ! $
+      split ! $ move ! (1 ∷ []) $ use1 W (raw (fact 𝓤 (c .count ≡ capped (length ys)))) (for-of 𝓤 H A mem run (length ys) c) $ heard ! (c .count ≡ capped (length ys)) (λ e. split ! $ drop ! $
       peeks ! T.the-row (Is T.the-row) (shows 𝓤 H A T.the-row) c (v ∷ []) (λ is.
       land ! (from ! (stop !)) (init ! 29 refl (LL.lawful T.the-type T′.the-laws 𝓤 H A W .typed c _ is .0)) $
       rewrite ! 29 (λ (u : Val). ‵ (fat fullShare T′.mir l₄ 0 u)) (ap only (LL.tells T.the-type T′.the-laws c (v ∷ []) is)) refl $ drop ! $

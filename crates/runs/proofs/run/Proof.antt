@@ -1,22 +1,21 @@
-use Rattle.stepping.proofs.Calling.{known-here}
-use Rattle.runs.proofs.Running.{call-goes-on, not-compiled, not-lent}
+use Rattle.runs.proofs.Running.{run-fits, run-late, run-refused, run-taken}
 use borrow.Author.Needs.{needs}
 use Rattle.runs.proofs.run.Statement.{statement}
 use Rattle.runs.proofs.run.Tie as tie
 use Rattle.runs.proofs.run.Reads as reads
 use Rattle.runs.proofs.run.Lts as lts
-use Rattle.monitor.proofs.table.is_compiled.Reads as is-compiled-reads
-use Rattle.runs.proofs.run_compiled.Reads as run-compiled-reads
-use Rattle.lent.proofs.room.is_lent.Reads as is-lent-reads
+use Rattle.lent.proofs.refusal.refusal_of.Reads as refusal-of-reads
+use Rattle.runs.proofs.run_fit.Reads as run-fit-reads
+use Rattle.runs.proofs.in_time.Reads as in-time-reads
 
-is-lent-requires : tie.Need-is-lent-requires
-is-lent-requires c κs = search needs
+refusal-of-requires : tie.Need-refusal-of-requires
+refusal-of-requires c κs = search needs
 
-is-compiled-requires : tie.Need-is-compiled-requires
-is-compiled-requires c κs = search needs
+in-time-requires : tie.Need-in-time-requires
+in-time-requires c κs = search needs
 
-run-compiled-requires : tie.Need-run-compiled-requires
-run-compiled-requires c κs = known-here _ _ 0 0 _ (c .before .before .before .before .before .before .before .is-lent .ensures) (c .before .before .before .before .before .before .if1 .taken) _ (c .before .before .before .before .before .is-compiled .ensures) (c .before .before .before .before .if2 .taken)
+run-fit-requires : tie.Need-run-fit-requires
+run-fit-requires c κs = run-fits _ _ _ _ _ (c .before .before .before .before .before .before .before .refusal-of .ensures) (c .before .before .before .before .before .before .if1 .taken) _ (c .before .before .before .before .before .in-time .ensures) (c .before .before .before .before .if2 .taken)
 
 same-length : tie.Need-same-length
 same-length c = search needs
@@ -31,7 +30,7 @@ same-length-4 : tie.Need-same-length-4
 same-length-4 c = search needs
 
 returns : tie.Need-returns
-returns c = search (needs, call-goes-on)
+returns c = search (needs, run-taken)
 
 same-length-5 : tie.Need-same-length-5
 same-length-5 c = search needs
@@ -46,7 +45,7 @@ same-length-8 : tie.Need-same-length-8
 same-length-8 c = search needs
 
 returns-2 : tie.Need-returns-2
-returns-2 c = search (needs, not-compiled)
+returns-2 c = search (needs, run-late)
 
 same-length-9 : tie.Need-same-length-9
 same-length-9 c = search needs
@@ -61,15 +60,15 @@ same-length-12 : tie.Need-same-length-12
 same-length-12 c = search needs
 
 returns-3 : tie.Need-returns-3
-returns-3 c = search (needs, not-lent)
+returns-3 c = search (needs, run-refused)
 
 pub run-spec : {M : Type 1} → statement M
 run-spec =
     tie.close
     (tie.spec
-    is-lent-requires
-    is-compiled-requires
-    run-compiled-requires
+    refusal-of-requires
+    in-time-requires
+    run-fit-requires
     same-length
     same-length-2
     same-length-3

@@ -2,18 +2,21 @@ use Prim.Native.Nat.{_-_}
 use native.Mathlib.Omega.{arith}
 use borrow.Author.Needs.{needs}
 use lib.ListN.{length}
+use Rattle.node_step.specs.Memory.{entries}
+use Rattle.lent.specs.Lent.{tables}
 use Rattle.runs.proofs.Running.{SameRoom, Along, along-start, along-end, along-below, along-fit, along-next}
 use Rattle.runs.proofs.run_fit.Statement.{statement}
 use Rattle.runs.proofs.run_fit.Tie as tie
 use Rattle.runs.proofs.run_fit.Reads as reads
 use Rattle.runs.proofs.run_fit.Lts as lts
-use Rattle.runs.proofs.first_of.Reads as first-of-reads
+use Rattle.runs.proofs.first_verdict.Reads as first-verdict-reads
 use Rattle.runs.proofs.report_at.Reads as report-at-reads
 use Rattle.stepping.proofs.call.step_fit.Reads as step-fit-reads
 
 abbrev Inv-loop : tie.InvT-loop
 Inv-loop ops nums first count nodes nfirst ncount size forms bounds held₀ remaining₀ failed₀ culprits₀ s words r₀ at₀ i₀ held remaining failed culprits r at i =
-    Along (record { ops = ops; nums = nums; first = first; count = count; nodes = nodes; nfirst = nfirst; ncount = ncount }) size forms bounds (record { held = held₀; remaining = remaining₀; failed = failed₀; culprits = culprits₀ }) s words (record { held = held; remaining = remaining; failed = failed; culprits = culprits }) r at i × SameRoom (record { held = held; remaining = remaining; failed = failed; culprits = culprits }) (record { held = held₀; remaining = remaining₀; failed = failed₀; culprits = culprits₀ })
+    Along (tables ops nums first count nodes nfirst ncount) size forms bounds (entries held₀ remaining₀ failed₀ culprits₀) s words (entries held remaining failed culprits) r at i
+    × SameRoom (entries held remaining failed culprits) (entries held₀ remaining₀ failed₀ culprits₀)
 
 abbrev μ-loop : tie.MeasureT-loop
 μ-loop ops nums first count nodes nfirst ncount size forms bounds held₀ remaining₀ failed₀ culprits₀ s words r₀ at₀ i₀ held remaining failed culprits r at i =
@@ -34,8 +37,8 @@ step-fit-requires c κs = along-fit _ _ _ _ _ _ _ _ _ _ _ (c .before .before .be
 report-at-requires : tie.Need-report-at-requires Inv-loop μ-loop
 report-at-requires c κs = search needs
 
-first-of-requires : tie.Need-first-of-requires Inv-loop μ-loop
-first-of-requires c κs = search needs
+first-verdict-requires : tie.Need-first-verdict-requires Inv-loop μ-loop
+first-verdict-requires c κs = search needs
 
 add-at : tie.Need-add-at Inv-loop μ-loop
 add-at c = omega (arith, along-below _ _ _ _ _ _ _ _ _ _ _ (c .before .before .before .before .before .before .before .before .before .before .before .before .before .before .before .before .loop .inv .0) (c .before .before .before .before .before .before .before .before .before .before .before .before .before .before .before .loop-test .taken))
@@ -48,7 +51,7 @@ loop-less c = search needs
 
 loop-again : tie.Need-loop-again Inv-loop μ-loop
 loop-again c = (
-  along-next _ _ _ _ _ _ _ _ _ _ _ (c .before .before .before .before .before .before .before .before .before .before .before .before .before .before .before .before .loop .inv .0) (c .before .before .before .before .before .before .before .before .before .before .before .before .before .before .before .loop-test .taken) _ _ (c .before .before .before .before .before .before .before .before .before .step-fit .ensures) _ _ (c .before .report-at .ensures) (c .first-of .ensures),
+  along-next _ _ _ _ _ _ _ _ _ _ _ (c .before .before .before .before .before .before .before .before .before .before .before .before .before .before .before .before .loop .inv .0) (c .before .before .before .before .before .before .before .before .before .before .before .before .before .before .before .loop-test .taken) (c .before .before .before .before .before .before .before .before .before .step-fit .result) _ (c .before .before .before .before .before .before .before .before .before .step-fit .ensures) _ _ (c .before .report-at .ensures) (c .first-verdict .ensures),
   record { held = search needs; remaining = search needs; failed = search needs; culprits = search needs },
 )
 
@@ -78,7 +81,7 @@ run-fit-spec =
     shared-slice-read-step-fit
     step-fit-requires
     report-at-requires
-    first-of-requires
+    first-verdict-requires
     add-at
     add-i
     loop-less

@@ -50,6 +50,7 @@ use Rattle.node_table.specs.declared.Columns.{Columns}
 use Rattle.node_table.proofs.FormulaNode as N
 use Rattle.node_table.proofs.Columns as T
 use Rattle.node_table.proofs.Columns.Laws as T′
+use Rattle.node_table.proofs.Unpacking.{Unpack, unpacked-of, to-unpack, goes-unpack}
 use Rattle.node_table.proofs.unpack as unpack
 use Rattle.node_table.proofs.unpack.Symbol as unpack-def
 use Rattle.node_table.proofs.unpack.Symbol.{name as #unpack}
@@ -68,15 +69,9 @@ abbrev stayed : Stays (compile-table.ended .signature .params) (compile-table.en
 stayed = (stay-none-slice (0 ∷ []) tt (plain (λ _. N.the-row)) yes, (stay-none (λ _. usize) yes, (stay-none (λ _. usize) yes, (gave-slice (1 ∷ []) tt (plain (λ _. u64)), tt))))
 
 module _ {M : Type 1} (𝓤 : URA M) (H : Heap 𝓤) (A : Atoms 𝓤) (mem : Memory → SProp 𝓤) (run : Routine → Fun 𝓤) where
-  -- the contracts that the proof cites
-  abbrev Unpack : Contract 𝓤
-  Unpack = tripleOf 𝓤 H A unpack.signature (unpack.spec 𝓤 H A mem run)
-
+  -- the contract of the call
   abbrev OnColumns : Contract 𝓤
   OnColumns = tripleOf 𝓤 H A columns.signature (columns.spec 𝓤 H A mem run)
-
-  unpacked-of : (κ : Lft) (s : RefT (List FormulaNode)) (f k : ℕ) (c : Columns) → ent 𝓤 (ensured 𝓤 H A unpack.ended (unpack.clauses 𝓤 H A mem run) (κ, tt) (s, (f, (k, tt))) tt c) (fact 𝓤 (Unpacked (s .now) f k c))
-  unpacked-of κ s f k c = exE 𝓤 _ (λ ws. snd∗ 𝓤 (sem 𝓤 H A (lasts unpack.ended (κ, tt) (s, (f, (k, tt))) ws)) (fact 𝓤 (Unpacked (s .now) f k c)))
 
 module _ {M : Type 1} (𝓤 : URA M) (H : Heap 𝓤) (A : Atoms 𝓤) (W : Given 𝓤 H A) (mem : Memory → SProp 𝓤) (run : Routine → Fun 𝓤) (κ κ′ : Lft) (q q′ : Share) (s : RefT (List FormulaNode)) (f k : ℕ) (x : RefT (List ℕ))
     (gs : Room N.the-row (length (s .now))) (gf : f < 2 ^ 64) (gk : k < 2 ^ 64) (gx : Room u64 (length (x .now))) where
@@ -114,14 +109,6 @@ module _ {M : Type 1} (𝓤 : URA M) (H : Heap 𝓤) (A : Atoms 𝓤) (W : Given
       nothing ! $ move ! (2 ∷ 0 ∷ []) $ fjoin ! $ owned ! usize (Is usize) (uint-makes 𝓤 H A W w64) k _ (refl, gk) $ fjoin ! $ owned ! usize (Is usize) (uint-makes 𝓤 H A W w64) f _ (refl, gf) $ fjoin ! $
       move ! (1 ∷ 0 ∷ []) $ fjoin ! $ done !
 
-  abbrev to-unpack : Unpack 𝓤 H A mem run .Ghost
-  to-unpack = (((κ, tt), (q, tt), tt, (s, (f, (k, tt))), (sv ∷ [], (vint w64 f ∷ [], (vint w64 k ∷ [], tt)))), tt)
-
-  goes-unpack : ent 𝓤 (sep 𝓤 (A .lft κ q) (sem 𝓤 H A Own)) (Unpack 𝓤 H A mem run .pre to-unpack)
-  goes-unpack =
-      qed W (‵ (flft κ q) ∷ ‵ Own ∷ []) ∵ nothing ! $ move ! (1 ∷ 0 ∷ []) $ join ! $
-      nothing ! $ owned ! usize (Is usize) (uint-makes 𝓤 H A W w64) k _ (refl, gk) $ fjoin ! $ owned ! usize (Is usize) (uint-makes 𝓤 H A W w64) f _ (refl, gf) $ fjoin ! $ move ! (2 ∷ 0 ∷ []) $ fjoin ! $ move ! (1 ∷ 0 ∷ []) $ join ! $ nothing ! $ move ! (1 ∷ 0 ∷ []) $ done !
-
   abbrev to-columns : Columns → Val → OnColumns 𝓤 H A mem run .Ghost
   to-columns c v = (((κ′, tt), (q′, tt), tt, (c, (f, (k, (x, tt)))), (v ∷ [], (vint w64 f ∷ [], (vint w64 k ∷ [], (xv ∷ [], tt))))), tt)
 
@@ -138,8 +125,8 @@ module _ {M : Type 1} (𝓤 : URA M) (H : Heap 𝓤) (A : Atoms 𝓤) (W : Given
         -- `unpack`: a copy of what the table owns is kept for the exit
         move ! (17 ∷ []) $ fsplit ! $ use1 W (‵ Own ⊛ ‵ Own) (shr-slice-copy 𝓤 H A W (named 0) κ N.the-row .twice s (sv ∷ [])) $ split ! $ move ! (19 ∷ []) $ split ! $
         -- [κ's token; κ′'s; what table owns; again; what the others own; _7; …]
-        move ! (0 ∷ 2 ∷ []) $ use2 W (raw (Unpack 𝓤 H A mem run .pre to-unpack)) goes-unpack $
-        calls-at ! fm (Unpack 𝓤 H A mem run) known-unpack to-unpack (and-then ! (load ! (from ! (stop !)) (look ! 16 refl)) (and-then ! (load ! (from ! (stop !)) (look ! 14 refl)) (and-then ! (load ! (from ! (stop !)) (look ! 12 refl)) (no-more !)))) (λ v.
+        move ! (0 ∷ 2 ∷ []) $ use2 W (raw (Unpack 𝓤 H A mem run .pre (to-unpack 𝓤 H A mem run κ s f k q))) (goes-unpack 𝓤 H A mem run κ s f k W q gf gk) $
+        calls-at ! fm (Unpack 𝓤 H A mem run) known-unpack (to-unpack 𝓤 H A mem run κ s f k q) (and-then ! (load ! (from ! (stop !)) (look ! 16 refl)) (and-then ! (load ! (from ! (stop !)) (look ! 14 refl)) (and-then ! (load ! (from ! (stop !)) (look ! 12 refl)) (no-more !)))) (λ v.
         use1 W (later (some (λ (c : Columns). ((‵ (flft κ q) ⊛ ‵ ftrue) ⊛ ‵ (T.the-row .own c (v ∷ []))) ⊛ raw (ensured 𝓤 H A unpack.ended (unpack.clauses 𝓤 H A mem run) (κ, tt) (s, (f, (k, tt))) tt c)))) (id⊢ 𝓤 _) $ await ! tt $ pick ! (λ c.
         split ! $ move ! (1 ∷ []) $ use1 W (raw (fact 𝓤 (Unpacked (s .now) f k c))) (unpacked-of 𝓤 H A mem run κ s f k c) $ heard ! (Unpacked (s .now) f k c) (λ u. split ! $ move ! (1 ∷ []) $
         -- [what the columns own; κ's token; κ′'s; what table owns; what the others own; _7; …]

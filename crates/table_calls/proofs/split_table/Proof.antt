@@ -49,6 +49,7 @@ use Rattle.node_table.specs.declared.Columns.{Columns}
 use Rattle.node_table.proofs.FormulaNode as N
 use Rattle.node_table.proofs.Columns as T
 use Rattle.node_table.proofs.Columns.Laws as T′
+use Rattle.node_table.proofs.Unpacking.{Unpack, unpacked-of, to-unpack, goes-unpack}
 use Rattle.node_table.proofs.unpack as unpack
 use Rattle.node_table.proofs.unpack.Symbol as unpack-def
 use Rattle.node_table.proofs.unpack.Symbol.{name as #unpack}
@@ -67,15 +68,9 @@ abbrev stayed : Stays (split-table.ended .signature .params) (split-table.ended 
 stayed = (stay-none-slice (0 ∷ []) tt (plain (λ _. N.the-row)) yes, (stay-none (λ _. usize) yes, (stay-none (λ _. usize) yes, (stay-none (λ _. Boolean) yes, (gave-slice (1 ∷ []) tt (plain (λ _. u64)), (gave-slice (2 ∷ []) tt (plain (λ _. u64)), tt))))))
 
 module _ {M : Type 1} (𝓤 : URA M) (H : Heap 𝓤) (A : Atoms 𝓤) (mem : Memory → SProp 𝓤) (run : Routine → Fun 𝓤) where
-  -- the contracts that the proof cites
-  abbrev Unpack : Contract 𝓤
-  Unpack = tripleOf 𝓤 H A unpack.signature (unpack.spec 𝓤 H A mem run)
-
+  -- the contract of the call
   abbrev OnColumns : Contract 𝓤
   OnColumns = tripleOf 𝓤 H A columns.signature (columns.spec 𝓤 H A mem run)
-
-  unpacked-of : (κ : Lft) (s : RefT (List FormulaNode)) (f k : ℕ) (c : Columns) → ent 𝓤 (ensured 𝓤 H A unpack.ended (unpack.clauses 𝓤 H A mem run) (κ, tt) (s, (f, (k, tt))) tt c) (fact 𝓤 (Unpacked (s .now) f k c))
-  unpacked-of κ s f k c = exE 𝓤 _ (λ ws. snd∗ 𝓤 (sem 𝓤 H A (lasts unpack.ended (κ, tt) (s, (f, (k, tt))) ws)) (fact 𝓤 (Unpacked (s .now) f k c)))
 
 module _ {M : Type 1} (𝓤 : URA M) (H : Heap 𝓤) (A : Atoms 𝓤) (W : Given 𝓤 H A) (mem : Memory → SProp 𝓤) (run : Routine → Fun 𝓤) (κ κ₁ κ₂ : Lft) (q q₁ q₂ : Share)
     (s : RefT (List FormulaNode)) (f : ℕ) (k : ℕ) (m : Bool) (x : RefT (List ℕ)) (y : RefT (List ℕ)) (gs : Room N.the-row (length (s .now))) (gf : f < 2 ^ 64) (gk : k < 2 ^ 64) (gx : Room u64 (length (x .now))) (gy : Room u64 (length (y .now))) where
@@ -108,14 +103,6 @@ module _ {M : Type 1} (𝓤 : URA M) (H : Heap 𝓤) (A : Atoms 𝓤) (W : Given
       suffices ! _ (ends-at 𝓤 H A split-table.ended stayed (split-table.clauses 𝓤 H A mem run) W bound w r (tt, (tt, (tt, (tt, (z₁, (z₂, tt)))))) (tt, (tt, (tt, (tt, (l₁, (l₂, tt))))))) $ says ! a $ join ! $ frame ! $
       nothing ! $ move ! (3 ∷ 0 ∷ []) $ fjoin ! $ move ! (2 ∷ 0 ∷ []) $ fjoin ! $ owned ! Boolean (Is Boolean) (bool-makes 𝓤 H A W) m _ refl $ fjoin ! $ owned ! usize (Is usize) (uint-makes 𝓤 H A W w64) k _ (refl, gk) $ fjoin ! $ owned ! usize (Is usize) (uint-makes 𝓤 H A W w64) f _ (refl, gf) $ fjoin ! $ move ! (1 ∷ 0 ∷ []) $ fjoin ! $ done !
 
-  abbrev to-unpack : Unpack 𝓤 H A mem run .Ghost
-  to-unpack = (((κ, tt), (q, tt), tt, (s, (f, (k, tt))), (sv ∷ [], (vint w64 f ∷ [], (vint w64 k ∷ [], tt)))), tt)
-
-  goes-unpack : ent 𝓤 (sep 𝓤 (A .lft κ q) (sem 𝓤 H A Own)) (Unpack 𝓤 H A mem run .pre to-unpack)
-  goes-unpack =
-      qed W (‵ (flft κ q) ∷ ‵ Own ∷ []) ∵ nothing ! $ move ! (1 ∷ 0 ∷ []) $ join ! $
-      nothing ! $ owned ! usize (Is usize) (uint-makes 𝓤 H A W w64) k _ (refl, gk) $ fjoin ! $ owned ! usize (Is usize) (uint-makes 𝓤 H A W w64) f _ (refl, gf) $ fjoin ! $ move ! (2 ∷ 0 ∷ []) $ fjoin ! $ move ! (1 ∷ 0 ∷ []) $ join ! $ nothing ! $ move ! (1 ∷ 0 ∷ []) $ done !
-
   abbrev to-columns : Columns → Val → OnColumns 𝓤 H A mem run .Ghost
   to-columns c v = (((κ₁, (κ₂, tt)), (q₁, (q₂, tt)), tt, (c, (f, (k, (m, (x, (y, tt)))))), (v ∷ [], (vint w64 f ∷ [], (vint w64 k ∷ [], (vbool m ∷ [], (sliceVal (x .ptr) (length (x .now)) ∷ [], (sliceVal (y .ptr) (length (y .now)) ∷ [], tt))))))), tt)
 
@@ -132,8 +119,8 @@ module _ {M : Type 1} (𝓤 : URA M) (H : Heap 𝓤) (A : Atoms 𝓤) (W : Given
         -- `unpack`: a copy of what the table owns is kept for the exit
         move ! (25 ∷ []) $ fsplit ! $ use1 W (‵ Own ⊛ ‵ Own) (shr-slice-copy 𝓤 H A W (named 0) κ N.the-row .twice s (sv ∷ [])) $ split ! $ move ! (27 ∷ []) $ split ! $
         -- [κ's token; the other tokens; what table owns; again; what the others own; _11; …]
-        move ! (0 ∷ 2 ∷ []) $ use2 W (raw (Unpack 𝓤 H A mem run .pre to-unpack)) goes-unpack $
-        calls-at ! fm (Unpack 𝓤 H A mem run) known-unpack to-unpack (and-then ! (load ! (from ! (stop !)) (look ! 24 refl)) (and-then ! (load ! (from ! (stop !)) (look ! 22 refl)) (and-then ! (load ! (from ! (stop !)) (look ! 20 refl)) (no-more !)))) (λ v.
+        move ! (0 ∷ 2 ∷ []) $ use2 W (raw (Unpack 𝓤 H A mem run .pre (to-unpack 𝓤 H A mem run κ s f k q))) (goes-unpack 𝓤 H A mem run κ s f k W q gf gk) $
+        calls-at ! fm (Unpack 𝓤 H A mem run) known-unpack (to-unpack 𝓤 H A mem run κ s f k q) (and-then ! (load ! (from ! (stop !)) (look ! 24 refl)) (and-then ! (load ! (from ! (stop !)) (look ! 22 refl)) (and-then ! (load ! (from ! (stop !)) (look ! 20 refl)) (no-more !)))) (λ v.
         use1 W (later (some (λ (c : Columns). ((‵ (flft κ q) ⊛ ‵ ftrue) ⊛ ‵ (T.the-row .own c (v ∷ []))) ⊛ raw (ensured 𝓤 H A unpack.ended (unpack.clauses 𝓤 H A mem run) (κ, tt) (s, (f, (k, tt))) tt c)))) (id⊢ 𝓤 _) $ await ! tt $ pick ! (λ c.
         split ! $ move ! (1 ∷ []) $ use1 W (raw (fact 𝓤 (Unpacked (s .now) f k c))) (unpacked-of 𝓤 H A mem run κ s f k c) $ heard ! (Unpacked (s .now) f k c) (λ u. split ! $ move ! (1 ∷ []) $
         -- [what the columns own; κ's token; the other tokens; what table owns; what the others own; _11; …]

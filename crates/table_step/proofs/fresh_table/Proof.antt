@@ -45,11 +45,11 @@ use denote.Triple.Table.{entered, cited}
 use denote.Triple.Walked.{says, Stays, gave-ref, stay-none, stay-none-slice, walkOf, goes-gave-ref, goes-none, goes-none-slice, Walks, ends-at, walked, walk-meets}
 use denote.Exit.{yes}
 use denote.Triple.Clauses.{ensured, lasts}
-use Rattle.lent.specs.Lent.{LentTables}
-use Rattle.in_place.specs.declared.Monitor.{Monitor}
+use Rattle.lent.specs.Lent.{LentTables, tables}
+use Rattle.in_place.specs.declared.ReferenceMonitor.{ReferenceMonitor}
 use Rattle.in_place.specs.declared.fresh.Started.{Started}
 use Rattle.in_place.specs.InPlace.{freshIn}
-use Rattle.in_place.proofs.Monitor as T
+use Rattle.in_place.proofs.ReferenceMonitor as T
 use Rattle.in_place.proofs.fresh.fresh as fresh
 use Rattle.in_place.proofs.fresh.fresh.Symbol as fresh-def
 use Rattle.in_place.proofs.fresh.fresh.Symbol.{name as #fresh}
@@ -61,6 +61,7 @@ use Rattle.node_table.proofs.Arrays.{A8, A64, val8, val64}
 use Rattle.node_table.proofs.FormulaNode as N
 use Rattle.node_table.proofs.Columns as C
 use Rattle.node_table.proofs.Columns.Laws as C′
+use Rattle.node_table.proofs.Unpacking.{Unpack, unpacked-of, to-unpack, goes-unpack}
 use Rattle.node_table.proofs.unpack as unpack
 use Rattle.node_table.proofs.unpack.Symbol as unpack-def
 use Rattle.node_table.proofs.unpack.Symbol.{name as #unpack}
@@ -68,9 +69,9 @@ use Rattle.node_table.proofs.unpack.Met as unpack-thm
 use Rattle.stepping.specs.declared.fresh.Outcome.{Outcome}
 use Rattle.stepping.proofs.fresh.Outcome as R
 use Rattle.stepping.proofs.fresh.Outcome.Laws as R′
-use Rattle.table_step.specs.Over.{over}
-use Rattle.table_step.proofs.Front.{Front, behind, array-out, array-back, room8, room64}
-use Rattle.table_step.proofs.Own.{fresh-own}
+use Rattle.table_step.specs.Over.{tablesOver}
+use Rattle.table_step.proofs.Front.{Front, behind, array-out, array-back, room8, room64, is8, is64}
+use Rattle.table_step.proofs.Own.{os₀, ns₀, as-held, in-ops, in-nums, fresh-own}
 use Rattle.table_step.proofs.Told.{told-last}
 use Rattle.table_step.proofs.fresh_table.Key.{name as #fresh-table}
 use Rattle.table_step.proofs.fresh_table as fresh-table
@@ -81,17 +82,11 @@ abbrev stayed : Stays (fresh-table.ended .signature .params) (fresh-table.ended 
 stayed = (gave-ref (0 ∷ []) tt (plain (λ _. T.the-row)), (stay-none-slice (1 ∷ []) tt (plain (λ _. N.the-row)) yes, (stay-none (λ _. usize) yes, (stay-none (λ _. usize) yes, (stay-none-slice (2 ∷ []) tt (plain (λ _. u64)) yes, (stay-none (λ _. usize) yes, (stay-none (λ _. usize) yes, tt)))))))
 
 module _ {M : Type 1} (𝓤 : URA M) (H : Heap 𝓤) (A : Atoms 𝓤) (mem : Memory → SProp 𝓤) (run : Routine → Fun 𝓤) where
-  -- the contracts that the proof cites
-  abbrev Unpack : Contract 𝓤
-  Unpack = tripleOf 𝓤 H A unpack.signature (unpack.spec 𝓤 H A mem run)
-
+  -- the contract of the call
   abbrev Called : Contract 𝓤
   Called = tripleOf 𝓤 H A fresh.signature (fresh.spec 𝓤 H A mem run)
 
-  unpacked-of : (κ : Lft) (t : RefT (List FormulaNode)) (first count : ℕ) (c : Columns) → ent 𝓤 (ensured 𝓤 H A unpack.ended (unpack.clauses 𝓤 H A mem run) (κ, tt) (t, (first, (count, tt))) tt c) (fact 𝓤 (Unpacked (t .now) first count c))
-  unpacked-of κ t first count c = exE 𝓤 _ (λ ws. snd∗ 𝓤 (sem 𝓤 H A (lasts unpack.ended (κ, tt) (t, (first, (count, tt))) ws)) (fact 𝓤 (Unpacked (t .now) first count c)))
-
-module _ {M : Type 1} (𝓤 : URA M) (H : Heap 𝓤) (A : Atoms 𝓤) (W : Given 𝓤 H A) (at-mem : Memory → SProp 𝓤) (run : Routine → Fun 𝓤) (κ κ₁ κ₂ : Lft) (q q₁ q₂ : Share) (b o : ℕ) (γ : GName) (h : Monitor) (table : RefT (List FormulaNode)) (first count : ℕ) (nodes : RefT (List ℕ)) (nfirst ncount : ℕ)
+module _ {M : Type 1} (𝓤 : URA M) (H : Heap 𝓤) (A : Atoms 𝓤) (W : Given 𝓤 H A) (at-mem : Memory → SProp 𝓤) (run : Routine → Fun 𝓤) (κ κ₁ κ₂ : Lft) (q q₁ q₂ : Share) (b o : ℕ) (γ : GName) (h : ReferenceMonitor) (table : RefT (List FormulaNode)) (first count : ℕ) (nodes : RefT (List ℕ)) (nfirst ncount : ℕ)
     (gt : Room N.the-row (length (table .now))) (gf : first < 2 ^ 64) (gc : count < 2 ^ 64) (gn : Room u64 (length (nodes .now))) (gnf : nfirst < 2 ^ 64) (gnc : ncount < 2 ^ 64) where
   -- the parameters after the table: their types, values and machine values
   abbrev Rs : List RattleType
@@ -110,12 +105,12 @@ module _ {M : Type 1} (𝓤 : URA M) (H : Heap 𝓤) (A : Atoms 𝓤) (W : Given
   OwnTable = ShrSlice (named 1) κ₁ N.the-row .own table (slice-vals table)
 
   -- the lent monitor
-  abbrev m : RefT Monitor
+  abbrev m : RefT ReferenceMonitor
   m = record { ptr = (b, o); name = γ; now = h }
 
   -- the call's answer, and the monitor that it leaves
   abbrev answer : Started
-  answer = freshIn (over (table .now) first count (now nodes) nfirst ncount) h
+  answer = freshIn (tablesOver (table .now) first count (now nodes) nfirst ncount) h
 
   abbrev bound : walkOf 𝓤 H A fresh-table.ended stayed (fresh-table.clauses 𝓤 H A at-mem run) .Ghost
   bound = (((κ, (κ₁, (κ₂, tt))), (q, (q₁, (q₂, tt))), tt, (m, (table, rs)), (vptr b o ∷ [], (slice-vals table, rvs))), tt)
@@ -123,22 +118,13 @@ module _ {M : Type 1} (𝓤 : URA M) (H : Heap 𝓤) (A : Atoms 𝓤) (W : Given
   abbrev Post : Val → SProp 𝓤
   Post = walkOf 𝓤 H A fresh-table.ended stayed (fresh-table.clauses 𝓤 H A at-mem run) .post bound
 
-  exits : (r : Outcome) (v : Val) (z : Monitor) → (r ≡ answer .outcome) × (z ≡ answer .monitor)
+  exits : (r : Outcome) (v : Val) (z : ReferenceMonitor) → (r ≡ answer .outcome) × (z ≡ answer .monitor)
       → ent 𝓤 (⋆ 𝓤 H A (‵ (fres γ (T.the-row .coded .code z)) ∷ ‵ (flft κ q) ∷ (‵ (flft κ₁ q₁) ⊛ ‵ ftrue) ∷ (‵ (flft κ₂ q₂) ⊛ ‵ ftrue) ∷ ‵ OwnTable ∷ ‵ (owns Rs rs rvs) ∷ ‵ (R.the-row .own r (v ∷ [])) ∷ [])) (Post v)
   exits r v z e =
       qed W (‵ (fres γ (T.the-row .coded .code z)) ∷ ‵ (flft κ q) ∷ (‵ (flft κ₁ q₁) ⊛ ‵ ftrue) ∷ (‵ (flft κ₂ q₂) ⊛ ‵ ftrue) ∷ ‵ OwnTable ∷ ‵ (owns Rs rs rvs) ∷ ‵ (R.the-row .own r (v ∷ [])) ∷ []) ∵
       suffices ! _ (ends-at 𝓤 H A fresh-table.ended stayed (fresh-table.clauses 𝓤 H A at-mem run) W bound v r (z, (tt, (tt, (tt, (tt, (tt, (tt, tt))))))) (tt, (tt, (tt, (tt, (tt, (tt, (tt, tt)))))))) $ says ! e $
       move ! (2 ∷ []) $ split ! $ move ! (1 ∷ []) $ drop ! $ move ! (0 ∷ 3 ∷ []) $ join ! $ move ! (2 ∷ 0 ∷ []) $ join ! $ frame ! $
       move ! (1 ∷ 2 ∷ []) $ fjoin ! $ move ! (1 ∷ 0 ∷ []) $ fjoin ! $ frame ! $ done !
-
-  abbrev to-unpack : Unpack 𝓤 H A at-mem run .Ghost
-  to-unpack = (((κ₁, tt), (q₁, tt), tt, (table, (first, (count, tt))), (slice-vals table, (vint w64 first ∷ [], (vint w64 count ∷ [], tt)))), tt)
-
-  goes-unpack : ent 𝓤 (sep 𝓤 (A .lft κ₁ q₁) (sem 𝓤 H A OwnTable)) (Unpack 𝓤 H A at-mem run .pre to-unpack)
-  goes-unpack =
-      qed W (‵ (flft κ₁ q₁) ∷ ‵ OwnTable ∷ []) ∵ nothing ! $ move ! (1 ∷ 0 ∷ []) $ join ! $
-      nothing ! $ owned ! usize (Is usize) (uint-makes 𝓤 H A W w64) count _ (refl, gc) $ fjoin ! $ owned ! usize (Is usize) (uint-makes 𝓤 H A W w64) first _ (refl, gf) $ fjoin ! $
-      move ! (2 ∷ 0 ∷ []) $ fjoin ! $ move ! (1 ∷ 0 ∷ []) $ join ! $ nothing ! $ move ! (1 ∷ 0 ∷ []) $ done !
 
   -- the call, with the fronts of n elements of os, lent at x for α, and of ns, lent at y for β: what it is passed, what it asks, and what is known of its answer and of
   -- the monitor afterwards
@@ -150,7 +136,7 @@ module _ {M : Type 1} (𝓤 : URA M) (H : Heap 𝓤) (A : Atoms 𝓤) (W : Given
     nums = record { ptr = (y, 0); name = ε; now = take n ns }
 
     abbrev fronts : LentTables
-    fronts = record { ops = take n os; nums = take n ns; first = first; count = count; nodes = now nodes; nfirst = nfirst; ncount = ncount }
+    fronts = tables (take n os) (take n ns) first count (now nodes) nfirst ncount
 
     abbrev out : Started
     out = freshIn fronts h
@@ -179,25 +165,10 @@ module _ {M : Type 1} (𝓤 : URA M) (H : Heap 𝓤) (A : Atoms 𝓤) (W : Given
         (qed W (‵ (lasts fresh.ended (κ, (α ∷ [], (β ∷ [], (κ₂, tt)))) (m, (ops, (nums, rs))) ws) ∷ raw (fact 𝓤 ((r ≡ out .outcome) × (ws .0 ≡ out .monitor))) ∷ []) ∵ fsplit ! $ keep ! (0 ∷ 2 ∷ []) $ done !)
         (told-last 𝓤 H A W γ (ws .0) (out .monitor) (r ≡ out .outcome)))
 
-  -- the arrays as the struct holds them
-  abbrev os₀ : Columns → List ℕ
-  os₀ c = map (λ v. v) (c .ops)
-
-  abbrev ns₀ : Columns → List ℕ
-  ns₀ c = map (λ v. v) (c .nums)
-
   -- what is answered for the columns is answered for the table
-  moved : (c : Columns) → Unpacked (table .now) first count c → freshIn (record { ops = take (c .count) (os₀ c); nums = take (c .count) (ns₀ c); first = first; count = count; nodes = now nodes; nfirst = nfirst; ncount = ncount }) h ≡ answer
+  moved : (c : Columns) → Unpacked (table .now) first count c → freshIn (tables (take (c .count) (os₀ c)) (take (c .count) (ns₀ c)) first count (now nodes) nfirst ncount) h ≡ answer
   moved c u =
-      ap (λ (l : List ℕ). freshIn (record { ops = take (c .count) l; nums = take (c .count) (ns₀ c); first = first; count = count; nodes = now nodes; nfirst = nfirst; ncount = ncount }) h) (map-id (c .ops))
-      ∙ ap (λ (l : List ℕ). freshIn (record { ops = take (c .count) (c .ops); nums = take (c .count) l; first = first; count = count; nodes = now nodes; nfirst = nfirst; ncount = ncount }) h) (map-id (c .nums))
-      ∙ fresh-own (table .now) first count (now nodes) nfirst ncount c u h
-
-  in-ops : (c : Columns) → Unpacked (table .now) first count c → c .count ≤ length (os₀ c)
-  in-ops c u = subst (λ (l : List ℕ). c .count ≤ length l) (sym (map-id (c .ops))) (u .inside .ops)
-
-  in-nums : (c : Columns) → Unpacked (table .now) first count c → c .count ≤ length (ns₀ c)
-  in-nums c u = subst (λ (l : List ℕ). c .count ≤ length l) (sym (map-id (c .nums))) (u .inside .nums)
+      ap (λ (t : LentTables). freshIn t h) (as-held (table .now) first count (now nodes) nfirst ncount c u) ∙ fresh-own (table .now) first count (now nodes) nfirst ncount c u h
 
   module _ (Cs : Calls 𝓤 H) (Λ : Loops 𝓤 H) (fm : FmC 𝓤 H (W .laws) Cs) (known-unpack : Triple 𝓤 (Cs #unpack) (Unpack 𝓤 H A at-mem run)) (known-call : Triple 𝓤 (Cs #fresh) (Called 𝓤 H A at-mem run)) where
     walk : ent 𝓤 (onEntry 𝓤 H A fresh-table.signature (κ, (κ₁, (κ₂, tt))) (q, (q₁, (q₂, tt))) (m, (table, rs)) (vptr b o ∷ [], (slice-vals table, rvs))) (WpFn 𝓤 H Cs Λ code.function (vptr b o ∷ sliceVal (table .ptr) (length (table .now)) ∷ vint w64 first ∷ vint w64 count ∷ sliceVal (nodes .ptr) (length (nodes .now)) ∷ vint w64 nfirst ∷ vint w64 ncount ∷ []) Post)
@@ -214,8 +185,8 @@ module _ {M : Type 1} (𝓤 : URA M) (H : Heap 𝓤) (A : Atoms 𝓤) (W : Given
         -- `unpack`: a copy of what the table owns is kept for the exit
         move ! (35 ∷ []) $ fsplit ! $ move ! (1 ∷ []) $ fsplit ! $ use1 W (‵ OwnTable ⊛ ‵ OwnTable) (shr-slice-copy 𝓤 H A W (named 1) κ₁ N.the-row .twice table (slice-vals table)) $ split ! $ move ! (38 ∷ []) $ split ! $ move ! (1 ∷ []) $ split ! $
         -- [κ₁'s token; κ₂'s; κ's; what table owns; again; the others'; what m owns; _16; …]
-        move ! (0 ∷ 3 ∷ []) $ use2 W (raw (Unpack 𝓤 H A at-mem run .pre to-unpack)) goes-unpack $
-        calls-at ! fm (Unpack 𝓤 H A at-mem run) known-unpack to-unpack (and-then ! (load ! (from ! (stop !)) (look ! 34 refl)) (and-then ! (load ! (from ! (stop !)) (look ! 32 refl)) (and-then ! (load ! (from ! (stop !)) (look ! 30 refl)) (no-more !)))) (λ v.
+        move ! (0 ∷ 3 ∷ []) $ use2 W (raw (Unpack 𝓤 H A at-mem run .pre (to-unpack 𝓤 H A at-mem run κ₁ table first count q₁))) (goes-unpack 𝓤 H A at-mem run κ₁ table first count W q₁ gf gc) $
+        calls-at ! fm (Unpack 𝓤 H A at-mem run) known-unpack (to-unpack 𝓤 H A at-mem run κ₁ table first count q₁) (and-then ! (load ! (from ! (stop !)) (look ! 34 refl)) (and-then ! (load ! (from ! (stop !)) (look ! 32 refl)) (and-then ! (load ! (from ! (stop !)) (look ! 30 refl)) (no-more !)))) (λ v.
         use1 W (later (some (λ (c : Columns). ((‵ (flft κ₁ q₁) ⊛ ‵ ftrue) ⊛ ‵ (C.the-row .own c (v ∷ []))) ⊛ raw (ensured 𝓤 H A unpack.ended (unpack.clauses 𝓤 H A at-mem run) (κ₁, tt) (table, (first, (count, tt))) tt c)))) (id⊢ 𝓤 _) $ await ! tt $ pick ! (λ c.
         split ! $ move ! (1 ∷ []) $ use1 W (raw (fact 𝓤 (Unpacked (table .now) first count c))) (unpacked-of 𝓤 H A at-mem run κ₁ table first count c) $ heard ! (Unpacked (table .now) first count c) (λ u. split ! $ move ! (1 ∷ []) $
         -- [what c owns; κ₁'s token; κ₂'s; κ's; what table owns; the others'; what m owns; _16; …]
@@ -235,15 +206,15 @@ module _ {M : Type 1} (𝓤 : URA M) (H : Heap 𝓤) (A : Atoms 𝓤) (W : Given
         use2 W (‵ (Front u8 fullShare (c .count) (os₀ c) l₁₀) ⊛ ‵ (behind u8 fullShare (c .count) (os₀ c) l₁₀ 0)) (array-out 𝓤 H A W u8 1024 l₁₀ (os₀ c) tt _ (c .count)) $ split ! $
         lft-new ! tt (λ α. move ! (1 ∷ []) $
         use1 W (later (some (λ (δ : GName). ‵ (ShrSlice (named 1) (α ∷ []) u8 .own (record { ptr = (l₁₀, 0); name = δ; now = take (c .count) (os₀ c) }) (sliceVal (l₁₀, 0) (length (take (c .count) (os₀ c))) ∷ [])) ⊛ ‵ (flent (α ∷ []) (Front u8 fullShare (c .count) (os₀ c) l₁₀)))))
-        (lends-shr-slice 𝓤 H A W u8 (named 1) (α ∷ []) fullShare (take (c .count) (os₀ c)) l₁₀ 0 (room8 (c .count) (os₀ c) (in-ops c u) (is8 c v is-c .1 .0 .1))) $ await ! tt $ pick ! (λ δ. split ! $
-        rewrite ! 0 (λ (k : ℕ). ‵ (ShrSlice (named 1) (α ∷ []) u8 .own (record { ptr = (l₁₀, 0); name = δ; now = take (c .count) (os₀ c) }) (sliceVal (l₁₀, 0) k ∷ []))) (length-take-le (c .count) (os₀ c) (in-ops c u)) refl $
+        (lends-shr-slice 𝓤 H A W u8 (named 1) (α ∷ []) fullShare (take (c .count) (os₀ c)) l₁₀ 0 (room8 (c .count) (os₀ c) (in-ops (table .now) first count (now nodes) nfirst ncount c u) (is8 c v is-c .1 .0 .1))) $ await ! tt $ pick ! (λ δ. split ! $
+        rewrite ! 0 (λ (k : ℕ). ‵ (ShrSlice (named 1) (α ∷ []) u8 .own (record { ptr = (l₁₀, 0); name = δ; now = take (c .count) (os₀ c) }) (sliceVal (l₁₀, 0) k ∷ []))) (length-take-le (c .count) (os₀ c) (in-ops (table .now) first count (now nodes) nfirst ncount c u)) refl $
         -- [the slice; its lender's part; its token; what lies behind; κ₁'s token; κ₂'s; κ's; what table owns; the others'; what m owns; _16; …]: so are the numbers
         owned ! A64 (Is A64) (array-makes 𝓤 H A W u64 (uint-makes 𝓤 H A W w64) 1024) (ns₀ c) (val64 (ns₀ c) ∷ []) (is64 c v is-c) $ move ! (21 ∷ 0 ∷ []) $
         use2 W (‵ (Front u64 fullShare (c .count) (ns₀ c) l₁₁) ⊛ ‵ (behind u64 fullShare (c .count) (ns₀ c) l₁₁ 0)) (array-out 𝓤 H A W u64 1024 l₁₁ (ns₀ c) tt _ (c .count)) $ split ! $
         lft-new ! tt (λ β. move ! (1 ∷ []) $
         use1 W (later (some (λ (ε : GName). ‵ (ShrSlice (named 2) (β ∷ []) u64 .own (record { ptr = (l₁₁, 0); name = ε; now = take (c .count) (ns₀ c) }) (sliceVal (l₁₁, 0) (length (take (c .count) (ns₀ c))) ∷ [])) ⊛ ‵ (flent (β ∷ []) (Front u64 fullShare (c .count) (ns₀ c) l₁₁)))))
-        (lends-shr-slice 𝓤 H A W u64 (named 2) (β ∷ []) fullShare (take (c .count) (ns₀ c)) l₁₁ 0 (room64 (c .count) (ns₀ c) (in-nums c u) (is64 c v is-c .1 .0 .1))) $ await ! tt $ pick ! (λ ε. split ! $
-        rewrite ! 0 (λ (k : ℕ). ‵ (ShrSlice (named 2) (β ∷ []) u64 .own (record { ptr = (l₁₁, 0); name = ε; now = take (c .count) (ns₀ c) }) (sliceVal (l₁₁, 0) k ∷ []))) (length-take-le (c .count) (ns₀ c) (in-nums c u)) refl $
+        (lends-shr-slice 𝓤 H A W u64 (named 2) (β ∷ []) fullShare (take (c .count) (ns₀ c)) l₁₁ 0 (room64 (c .count) (ns₀ c) (in-nums (table .now) first count (now nodes) nfirst ncount c u) (is64 c v is-c .1 .0 .1))) $ await ! tt $ pick ! (λ ε. split ! $
+        rewrite ! 0 (λ (k : ℕ). ‵ (ShrSlice (named 2) (β ∷ []) u64 .own (record { ptr = (l₁₁, 0); name = ε; now = take (c .count) (ns₀ c) }) (sliceVal (l₁₁, 0) k ∷ []))) (length-take-le (c .count) (ns₀ c) (in-nums (table .now) first count (now nodes) nfirst ncount c u)) refl $
         -- `in_place::fresh::fresh`
         move ! (2 ∷ 9 ∷ []) $ join ! $ move ! (6 ∷ 0 ∷ []) $ join ! $ move ! (8 ∷ 0 ∷ []) $ join ! $ move ! (4 ∷ 1 ∷ []) $ join ! $ move ! (9 ∷ 0 ∷ []) $ join ! $ move ! (0 ∷ 1 ∷ 8 ∷ []) $
         use3 W (raw (Called 𝓤 H A at-mem run .pre (to (c .count) (os₀ c) (ns₀ c) α l₁₀ δ β l₁₁ ε)) ⊛ ‵ (owns Rs rs rvs)) (goes (c .count) (os₀ c) (ns₀ c) α l₁₀ δ β l₁₁ ε) $ split ! $
@@ -266,12 +237,6 @@ module _ {M : Type 1} (𝓤 : URA M) (H : Heap 𝓤) (A : Atoms 𝓤) (W : Given
         move ! (39 ∷ 40 ∷ 37 ∷ 38 ∷ 35 ∷ 36 ∷ 33 ∷ 34 ∷ 31 ∷ 32 ∷ 29 ∷ 30 ∷ 27 ∷ 28 ∷ 25 ∷ 26 ∷ 23 ∷ 24 ∷ 21 ∷ 22 ∷ 0 ∷ 20 ∷ 1 ∷ 19 ∷ 17 ∷ 18 ∷ 15 ∷ 16 ∷ 13 ∷ 14 ∷ 11 ∷ 12 ∷ 9 ∷ 10 ∷ []) $
         free1 ! $ free1 ! $ free1 ! $ free1 ! $ free1 ! $ free1 ! $ free1 ! $ free1 ! $ free1 ! $ free1 ! $ free1 ! $ free1 ! $ free1 ! $ free1 ! $ free1 ! $ free1 ! $ free1 ! $ free0 ! $
         move ! (3 ∷ 1 ∷ 5 ∷ 0 ∷ 6 ∷ 4 ∷ 2 ∷ []) $ by ! (exits r x _ (e ∙ ap (λ (a : Started). a .outcome) (moved c u), ap (λ (a : Started). a .monitor) (moved c u))))))))))))))))))))))))))))))))
-      where
-        is8 : (c : Columns) (v : Val) → Is C.the-row c (v ∷ []) → Is A8 (os₀ c) (val8 (os₀ c) ∷ [])
-        is8 c v is = LL.owed C.the-type C′.the-laws c (v ∷ []) is .1 .0
-
-        is64 : (c : Columns) (v : Val) → Is C.the-row c (v ∷ []) → Is A64 (ns₀ c) (val64 (ns₀ c) ∷ [])
-        is64 c v is = LL.owed C.the-type C′.the-laws c (v ∷ []) is .1 .1 .0
 
 module _ {M : Type 1} (𝓤 : URA M) (H : Heap 𝓤) (A : Atoms 𝓤) (W : Given 𝓤 H A) (mem : Memory → SProp 𝓤) (run : Routine → Fun 𝓤) where
   fresh-table-walks : (Cs : Calls 𝓤 H) (Λ : Loops 𝓤 H) → FmC 𝓤 H (W .laws) Cs → Triple 𝓤 (Cs #unpack) (Unpack 𝓤 H A mem run) → Triple 𝓤 (Cs #fresh) (Called 𝓤 H A mem run)

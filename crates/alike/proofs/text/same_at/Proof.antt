@@ -5,10 +5,10 @@ use Rattle.alike.proofs.text.same_at.Tie as tie
 use Rattle.alike.proofs.text.same_at.Reads as reads
 use Rattle.alike.proofs.text.same_at.Lts as lts
 use Rattle.alike.proofs.text.same_text.Reads as same-text-reads
-use Rattle.formula.proofs.signal.pure_at.Reads as pure-at-reads
+use Rattle.formula.proofs.signal.boolean_over_atoms.Reads as boolean-over-atoms-reads
 
-pure-at-requires : tie.Need-pure-at-requires
-pure-at-requires c κs = search (needs, placed-spelt)
+boolean-over-atoms-requires : tie.Need-boolean-over-atoms-requires
+boolean-over-atoms-requires c κs = search (needs, placed-spelt)
 
 enum-known-e : tie.Need-enum-known-e
 enum-known-e c = search needs
@@ -19,8 +19,8 @@ enum-told c = search needs
 returns : tie.Need-returns
 returns c = search (needs, first-stuck)
 
-pure-at-requires-2 : tie.Need-pure-at-requires-2
-pure-at-requires-2 c κs = search (needs, placed-spelt)
+boolean-over-atoms-requires-2 : tie.Need-boolean-over-atoms-requires-2
+boolean-over-atoms-requires-2 c κs = search (needs, placed-spelt)
 
 enum-known-f : tie.Need-enum-known-f
 enum-known-f c = search needs
@@ -41,11 +41,11 @@ pub same-at-spec : {M : Type 1} → statement M
 same-at-spec =
     tie.close
     (tie.spec
-    pure-at-requires
+    boolean-over-atoms-requires
     enum-known-e
     enum-told
     returns
-    pure-at-requires-2
+    boolean-over-atoms-requires-2
     enum-known-f
     enum-told-2
     returns-2

@@ -4,6 +4,7 @@ use Rattle.alike.proofs.text.same_sign.Statement.{statement}
 use Rattle.alike.proofs.text.same_sign.Tie as tie
 use Rattle.alike.proofs.text.same_sign.Reads as reads
 use Rattle.alike.proofs.text.same_sign.Lts as lts
+use Rattle.alike.proofs.text.same_atom.Reads as same-atom-reads
 
 enum-known-a : tie.Need-enum-known-a
 enum-known-a c = search needs
@@ -16,6 +17,9 @@ enum-told c = search needs
 
 returns : tie.Need-returns
 returns c = search (needs, atom-word)
+
+same-atom-requires : tie.Need-same-atom-requires
+same-atom-requires c κs = search needs
 
 returns-2 : tie.Need-returns-2
 returns-2 c = search (needs, both-atoms)
@@ -43,6 +47,7 @@ same-sign-spec =
     enum-known-b
     enum-told
     returns
+    same-atom-requires
     returns-2
     enum-known-a-2
     enum-known-b-2

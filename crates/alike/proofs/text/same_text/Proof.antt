@@ -1,5 +1,5 @@
 use Rattle.alike.specs.Signs.{rest}
-use Rattle.formula.specs.Text.{agree}
+use Rattle.alike.specs.Text.{agree}
 use lib.ListN.{length}
 use mathlib.Core.Path.{_≡_}
 use Rattle.alike.proofs.Texts.{text-start, both-end, first-end, second-end, text-less, text-more, text-differs}

@@ -48,146 +48,72 @@ abbrev value-at-below : ℕ → In 2 value-at-kinds.ps
 value-at-below t =
     and 2 value-at-kinds.ps (falls 2 value-at-kinds.ps _<_ μ-value-at t) value-at.Pre
 
-apart-at-node-at-requires : (t : ℕ) → apart-at-lts.Need-node-at-requires (
-  node-at-below t,
-  node-at.Post,
-) (apart-at-at t) apart-at.Post
+-- what the calls of apart_at ask and answer
+abbrev apart-at-claims : ℕ → apart-at-lts.Claims
+apart-at-claims t = (node-at-below t, node-at.Post)
+
+-- what the calls of node_at ask and answer
+abbrev node-at-claims : ℕ → node-at-lts.Claims
+node-at-claims t = (value-at-below t, value-at.Post, join-reads.Asked, join-reads.Learnt)
+
+-- what the calls of value_at ask and answer
+abbrev value-at-claims : ℕ → value-at-lts.Claims
+value-at-claims t = (truth-reads.Asked, truth-reads.Learnt, apart-at-below t, apart-at.Post)
+
+apart-at-node-at-requires : (t : ℕ) → apart-at-lts.Need-node-at-requires (apart-at-claims t) (apart-at-at t) apart-at.Post
 apart-at-node-at-requires t c κs = search needs
 
-apart-at-returns :
-    (t : ℕ) →
-    apart-at-lts.Need-returns (node-at-below t, node-at.Post) (apart-at-at t) apart-at.Post
+apart-at-returns : (t : ℕ) → apart-at-lts.Need-returns (apart-at-claims t) (apart-at-at t) apart-at.Post
 apart-at-returns t c = search needs
 
-node-at-shared-slice-read-op : (t : ℕ) → node-at-lts.Need-shared-slice-read-op (
-  value-at-below t,
-  value-at.Post,
-  join-reads.Asked,
-  join-reads.Learnt,
-) (node-at-at t) node-at.Post
+node-at-shared-slice-read-op : (t : ℕ) → node-at-lts.Need-shared-slice-read-op (node-at-claims t) (node-at-at t) node-at.Post
 node-at-shared-slice-read-op t c = search (needs, sig-in-ops)
 
-node-at-add-value-at : (t : ℕ) → node-at-lts.Need-add-value-at (
-  value-at-below t,
-  value-at.Post,
-  join-reads.Asked,
-  join-reads.Learnt,
-) (node-at-at t) node-at.Post
+node-at-add-value-at : (t : ℕ) → node-at-lts.Need-add-value-at (node-at-claims t) (node-at-at t) node-at.Post
 node-at-add-value-at t c = search needs
 
-node-at-value-at-requires : (t : ℕ) → node-at-lts.Need-value-at-requires (
-  value-at-below t,
-  value-at.Post,
-  join-reads.Asked,
-  join-reads.Learnt,
-) (node-at-at t) node-at.Post
+node-at-value-at-requires : (t : ℕ) → node-at-lts.Need-value-at-requires (node-at-claims t) (node-at-at t) node-at.Post
 node-at-value-at-requires t c κs = search (needs, sig-next, sig-falls)
 
-node-at-returns : (t : ℕ) → node-at-lts.Need-returns (
-  value-at-below t,
-  value-at.Post,
-  join-reads.Asked,
-  join-reads.Learnt,
-) (node-at-at t) node-at.Post
+node-at-returns : (t : ℕ) → node-at-lts.Need-returns (node-at-claims t) (node-at-at t) node-at.Post
 node-at-returns t c = search (needs, valued-not)
 
-node-at-value-at-requires-2 : (t : ℕ) → node-at-lts.Need-value-at-requires-2 (
-  value-at-below t,
-  value-at.Post,
-  join-reads.Asked,
-  join-reads.Learnt,
-) (node-at-at t) node-at.Post
+node-at-value-at-requires-2 : (t : ℕ) → node-at-lts.Need-value-at-requires-2 (node-at-claims t) (node-at-at t) node-at.Post
 node-at-value-at-requires-2 t c κs = search (needs, sig-right, sig-falls-right)
 
-node-at-join-requires : (t : ℕ) → node-at-lts.Need-join-requires (
-  value-at-below t,
-  value-at.Post,
-  join-reads.Asked,
-  join-reads.Learnt,
-) (node-at-at t) node-at.Post
+node-at-join-requires : (t : ℕ) → node-at-lts.Need-join-requires (node-at-claims t) (node-at-at t) node-at.Post
 node-at-join-requires t c κs = search needs
 
-node-at-returns-2 : (t : ℕ) → node-at-lts.Need-returns-2 (
-  value-at-below t,
-  value-at.Post,
-  join-reads.Asked,
-  join-reads.Learnt,
-) (node-at-at t) node-at.Post
+node-at-returns-2 : (t : ℕ) → node-at-lts.Need-returns-2 (node-at-claims t) (node-at-at t) node-at.Post
 node-at-returns-2 t c = search (needs, valued-two)
 
-value-at-shared-slice-read-if1 : (t : ℕ) → value-at-lts.Need-shared-slice-read-if1 (
-  truth-reads.Asked,
-  truth-reads.Learnt,
-  apart-at-below t,
-  apart-at.Post,
-) (value-at-at t) value-at.Post
+value-at-shared-slice-read-if1 : (t : ℕ) → value-at-lts.Need-shared-slice-read-if1 (value-at-claims t) (value-at-at t) value-at.Post
 value-at-shared-slice-read-if1 t c = search (needs, sig-in-ops)
 
-value-at-mul-truth : (t : ℕ) → value-at-lts.Need-mul-truth (
-  truth-reads.Asked,
-  truth-reads.Learnt,
-  apart-at-below t,
-  apart-at.Post,
-) (value-at-at t) value-at.Post
+value-at-mul-truth : (t : ℕ) → value-at-lts.Need-mul-truth (value-at-claims t) (value-at-at t) value-at.Post
 value-at-mul-truth t c = search needs
 
-value-at-shared-slice-read-truth : (t : ℕ) → value-at-lts.Need-shared-slice-read-truth (
-  truth-reads.Asked,
-  truth-reads.Learnt,
-  apart-at-below t,
-  apart-at.Post,
-) (value-at-at t) value-at.Post
+value-at-shared-slice-read-truth : (t : ℕ) → value-at-lts.Need-shared-slice-read-truth (value-at-claims t) (value-at-at t) value-at.Post
 value-at-shared-slice-read-truth t c = search (needs, sig-in-nums)
 
-value-at-truth-requires : (t : ℕ) → value-at-lts.Need-truth-requires (
-  truth-reads.Asked,
-  truth-reads.Learnt,
-  apart-at-below t,
-  apart-at.Post,
-) (value-at-at t) value-at.Post
+value-at-truth-requires : (t : ℕ) → value-at-lts.Need-truth-requires (value-at-claims t) (value-at-at t) value-at.Post
 value-at-truth-requires t c κs = search (needs, sig-small)
 
-value-at-add-t12 : (t : ℕ) → value-at-lts.Need-add-t12 (
-  truth-reads.Asked,
-  truth-reads.Learnt,
-  apart-at-below t,
-  apart-at.Post,
-) (value-at-at t) value-at.Post
+value-at-add-t12 : (t : ℕ) → value-at-lts.Need-add-t12 (value-at-claims t) (value-at-at t) value-at.Post
 value-at-add-t12 t c = search needs
 
-value-at-returns : (t : ℕ) → value-at-lts.Need-returns (
-  truth-reads.Asked,
-  truth-reads.Learnt,
-  apart-at-below t,
-  apart-at.Post,
-) (value-at-at t) value-at.Post
+value-at-returns : (t : ℕ) → value-at-lts.Need-returns (value-at-claims t) (value-at-at t) value-at.Post
 value-at-returns t c = search (needs, valued-leaf)
 
-value-at-apart-at-requires : (t : ℕ) → value-at-lts.Need-apart-at-requires (
-  truth-reads.Asked,
-  truth-reads.Learnt,
-  apart-at-below t,
-  apart-at.Post,
-) (value-at-at t) value-at.Post
+value-at-apart-at-requires : (t : ℕ) → value-at-lts.Need-apart-at-requires (value-at-claims t) (value-at-at t) value-at.Post
 value-at-apart-at-requires t c κs = search needs
 
-value-at-returns-2 : (t : ℕ) → value-at-lts.Need-returns-2 (
-  truth-reads.Asked,
-  truth-reads.Learnt,
-  apart-at-below t,
-  apart-at.Post,
-) (value-at-at t) value-at.Post
+value-at-returns-2 : (t : ℕ) → value-at-lts.Need-returns-2 (value-at-claims t) (value-at-at t) value-at.Post
 value-at-returns-2 t c = search needs
 
 pub +apart-at+node-at+value-at-spec : {M : Type 1} → statement M
-+apart-at+node-at+value-at-spec = close μ-apart-at μ-node-at μ-value-at (λ t. apart-at-lts.spec (
-  node-at-below t,
-  node-at.Post,
-) (apart-at-at t) apart-at.Post (apart-at-node-at-requires t) (apart-at-returns t))
-    (λ t. node-at-lts.spec
-    (value-at-below t, value-at.Post, join-reads.Asked, join-reads.Learnt)
-    (node-at-at t)
-    node-at.Post
++apart-at+node-at+value-at-spec = close μ-apart-at μ-node-at μ-value-at (λ t. apart-at-lts.spec (apart-at-claims t) (apart-at-at t) apart-at.Post (apart-at-node-at-requires t) (apart-at-returns t))
+    (λ t. node-at-lts.spec (node-at-claims t) (node-at-at t) node-at.Post
     (node-at-shared-slice-read-op t)
     (node-at-add-value-at t)
     (node-at-value-at-requires t)
@@ -195,10 +121,7 @@ pub +apart-at+node-at+value-at-spec : {M : Type 1} → statement M
     (node-at-value-at-requires-2 t)
     (node-at-join-requires t)
     (node-at-returns-2 t))
-    λ t. value-at-lts.spec
-    (truth-reads.Asked, truth-reads.Learnt, apart-at-below t, apart-at.Post)
-    (value-at-at t)
-    value-at.Post
+    λ t. value-at-lts.spec (value-at-claims t) (value-at-at t) value-at.Post
     (value-at-shared-slice-read-if1 t)
     (value-at-mul-truth t)
     (value-at-shared-slice-read-truth t)

@@ -46,12 +46,12 @@ use denote.Triple.Walked.{says, Stays, stay-ref, stay-none, stay-none-slice, wal
 use denote.Exit.{yes}
 use denote.Triple.Clauses.{ensured, lasts}
 use Rattle.lent.specs.Lent.{LentTables}
-use Rattle.in_place.specs.declared.Monitor.{Monitor}
+use Rattle.in_place.specs.declared.ReferenceMonitor.{ReferenceMonitor}
 use Rattle.in_place.specs.declared.fresh.Started.{Started}
 use Rattle.in_place.specs.InPlace.{freshIn}
 use Rattle.in_place.proofs.Lent.{lent, copies}
-use Rattle.in_place.proofs.Monitor as T
-use Rattle.in_place.proofs.Monitor.Laws as T′
+use Rattle.in_place.proofs.ReferenceMonitor as T
+use Rattle.in_place.proofs.ReferenceMonitor.Laws as T′
 use Rattle.in_place.proofs.fresh.Started as O
 use Rattle.in_place.proofs.fresh.Started.Laws as O′
 use Rattle.stepping.proofs.fresh.Outcome as R
@@ -72,7 +72,7 @@ stayed = (stay-ref (0 ∷ []) tt (plain (λ _. T.the-row)), (stay-none-slice (1 
 abbrev Core : {M : Type 1} (𝓤 : URA M) (H : Heap 𝓤) (A : Atoms 𝓤) (mem : Memory → SProp 𝓤) (run : Routine → Fun 𝓤) → Contract 𝓤
 Core 𝓤 H A mem run = tripleOf 𝓤 H A made.signature (made.spec 𝓤 H A mem run)
 
-module _ {M : Type 1} (𝓤 : URA M) (H : Heap 𝓤) (A : Atoms 𝓤) (W : Given 𝓤 H A) (at-mem : Memory → SProp 𝓤) (run : Routine → Fun 𝓤) (κ κ₁ κ₂ κ₃ : Lft) (bounds : AllOutlive 4 (fresh.signature .outlives) (κ, (κ₁, (κ₂, (κ₃, tt))))) (q q₁ q₂ q₃ : Share) (b o : ℕ) (γ : GName) (h : Monitor) (ops nums : RefT (List ℕ)) (first count : ℕ) (nodes : RefT (List ℕ)) (nfirst ncount : ℕ) where
+module _ {M : Type 1} (𝓤 : URA M) (H : Heap 𝓤) (A : Atoms 𝓤) (W : Given 𝓤 H A) (at-mem : Memory → SProp 𝓤) (run : Routine → Fun 𝓤) (κ κ₁ κ₂ κ₃ : Lft) (bounds : AllOutlive 4 (fresh.signature .outlives) (κ, (κ₁, (κ₂, (κ₃, tt))))) (q q₁ q₂ q₃ : Share) (b o : ℕ) (γ : GName) (h : ReferenceMonitor) (ops nums : RefT (List ℕ)) (first count : ℕ) (nodes : RefT (List ℕ)) (nfirst ncount : ℕ) where
   -- the parameters beside the monitor: their types, values and machine values
   abbrev Rs : List RattleType
   Rs = lent κ₁ κ₂ κ₃ ([])
@@ -87,7 +87,7 @@ module _ {M : Type 1} (𝓤 : URA M) (H : Heap 𝓤) (A : Atoms 𝓤) (W : Given
   tables = record { ops = now ops; nums = now nums; first = first; count = count; nodes = now nodes; nfirst = nfirst; ncount = ncount }
 
   -- the lent monitor, and its machine value
-  abbrev m : RefT Monitor
+  abbrev m : RefT ReferenceMonitor
   m = record { ptr = (b, o); name = γ; now = h }
 
   abbrev mach : Val

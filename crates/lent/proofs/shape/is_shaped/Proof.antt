@@ -7,10 +7,11 @@ use Rattle.lent.proofs.shape.is_shaped.Reads as reads
 use Rattle.lent.proofs.shape.is_shaped.Lts as lts
 use Rattle.monitor.proofs.node.row_at.Reads as row-at-reads
 use Rattle.lent.proofs.shape.fits_row.Reads as fits-row-reads
+use Rattle.node_step.specs.Memory.{entries}
 use Rattle.node_step.proofs.state.load.Reads as load-reads
 
 abbrev Inv-loop : tie.InvT-loop
-Inv-loop nodes nfirst forms bounds held remaining failed culprits n k₀ k = Shaping nodes nfirst forms bounds (record { held = held; remaining = remaining; failed = failed; culprits = culprits }) n k
+Inv-loop nodes nfirst forms bounds held remaining failed culprits n k₀ k = Shaping nodes nfirst forms bounds (entries held remaining failed culprits) n k
 
 abbrev μ-loop : tie.MeasureT-loop
 μ-loop nodes nfirst forms bounds held remaining failed culprits n k₀ k = n - k

@@ -1,4 +1,4 @@
-use Rattle.line.proofs.Words.{is-step-first}
+use Rattle.line.proofs.Words.{is-step-first, by-vocabulary}
 use borrow.Author.Needs.{needs}
 use Rattle.line.proofs.word.look_up.Statement.{statement}
 use Rattle.line.proofs.word.look_up.Tie as tie
@@ -20,7 +20,7 @@ word-of-requires : tie.Need-word-of-requires
 word-of-requires c κs = search needs
 
 returns-2 : tie.Need-returns-2
-returns-2 c = search needs
+returns-2 c = search (needs, by-vocabulary)
 
 pub look-up-spec : {M : Type 1} → statement M
 look-up-spec =

@@ -1,11 +1,11 @@
-use Rattle.line.proofs.Words.{is-var, is-in, is-out, past-vocabulary}
+use Rattle.line.proofs.Words.{found, passed}
 use borrow.Author.Needs.{needs}
 use Rattle.line.proofs.word.word_of.Statement.{statement}
 use Rattle.line.proofs.word.word_of.Tie as tie
 use Rattle.line.proofs.word.word_of.Reads as reads
 use Rattle.line.proofs.word.word_of.Lts as lts
 use Rattle.line.proofs.text.same.Reads as same-reads
-use Rattle.line.proofs.word.unary.Reads as unary-reads
+use Rattle.line.proofs.word.from_always.Reads as from-always-reads
 
 slice-aggregate-same : tie.Need-slice-aggregate-same
 slice-aggregate-same c = search needs
@@ -14,7 +14,7 @@ same-requires : tie.Need-same-requires
 same-requires c κs = search needs
 
 returns : tie.Need-returns
-returns c = search (needs, is-var)
+returns c = search (needs, found, passed)
 
 slice-aggregate-same-2 : tie.Need-slice-aggregate-same-2
 slice-aggregate-same-2 c = search needs
@@ -23,7 +23,7 @@ same-requires-2 : tie.Need-same-requires-2
 same-requires-2 c κs = search needs
 
 returns-2 : tie.Need-returns-2
-returns-2 c = search (needs, is-in)
+returns-2 c = search (needs, found, passed)
 
 slice-aggregate-same-3 : tie.Need-slice-aggregate-same-3
 slice-aggregate-same-3 c = search needs
@@ -32,13 +32,31 @@ same-requires-3 : tie.Need-same-requires-3
 same-requires-3 c κs = search needs
 
 returns-3 : tie.Need-returns-3
-returns-3 c = search (needs, is-out)
+returns-3 c = search (needs, found, passed)
 
-unary-requires : tie.Need-unary-requires
-unary-requires c κs = search needs
+slice-aggregate-same-4 : tie.Need-slice-aggregate-same-4
+slice-aggregate-same-4 c = search needs
+
+same-requires-4 : tie.Need-same-requires-4
+same-requires-4 c κs = search needs
 
 returns-4 : tie.Need-returns-4
-returns-4 c = search (needs, past-vocabulary)
+returns-4 c = search (needs, found, passed)
+
+slice-aggregate-same-5 : tie.Need-slice-aggregate-same-5
+slice-aggregate-same-5 c = search needs
+
+same-requires-5 : tie.Need-same-requires-5
+same-requires-5 c κs = search needs
+
+returns-5 : tie.Need-returns-5
+returns-5 c = search (needs, found, passed)
+
+from-always-requires : tie.Need-from-always-requires
+from-always-requires c κs = search needs
+
+returns-6 : tie.Need-returns-6
+returns-6 c = search (needs, passed)
 
 pub word-of-spec : {M : Type 1} → statement M
 word-of-spec =
@@ -53,5 +71,11 @@ word-of-spec =
     slice-aggregate-same-3
     same-requires-3
     returns-3
-    unary-requires
-    returns-4)
+    slice-aggregate-same-4
+    same-requires-4
+    returns-4
+    slice-aggregate-same-5
+    same-requires-5
+    returns-5
+    from-always-requires
+    returns-6)

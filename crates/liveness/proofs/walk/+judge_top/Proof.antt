@@ -24,287 +24,93 @@ abbrev judge-top-below : ℕ → In 2 judge-top-kinds.ps
 judge-top-below t =
     and 2 judge-top-kinds.ps (falls 2 judge-top-kinds.ps _<_ μ-judge-top t) judge-top.Pre
 
-judge-top-shared-slice-read-op : (t : ℕ) → judge-top-lts.Need-shared-slice-read-op (
-  judge-top-below t,
-  judge-top.Post,
-  operand-at-reads.Asked,
-  operand-at-reads.Learnt,
-  contains-liveness-reads.Asked,
-  contains-liveness-reads.Learnt,
-) (judge-top-at t) judge-top.Post
+-- what the calls of judge_top ask and answer
+abbrev judge-top-claims : ℕ → judge-top-lts.Claims
+judge-top-claims t = (judge-top-below t, judge-top.Post, operand-at-reads.Asked, operand-at-reads.Learnt, contains-liveness-reads.Asked, contains-liveness-reads.Learnt)
+
+judge-top-shared-slice-read-op : (t : ℕ) → judge-top-lts.Need-shared-slice-read-op (judge-top-claims t) (judge-top-at t) judge-top.Post
 judge-top-shared-slice-read-op t c = search (needs, in-ops)
 
-judge-top-add-t12 : (t : ℕ) → judge-top-lts.Need-add-t12 (
-  judge-top-below t,
-  judge-top.Post,
-  operand-at-reads.Asked,
-  operand-at-reads.Learnt,
-  contains-liveness-reads.Asked,
-  contains-liveness-reads.Learnt,
-) (judge-top-at t) judge-top.Post
+judge-top-add-t12 : (t : ℕ) → judge-top-lts.Need-add-t12 (judge-top-claims t) (judge-top-at t) judge-top.Post
 judge-top-add-t12 t c = search needs
 
-judge-top-returns : (t : ℕ) → judge-top-lts.Need-returns (
-  judge-top-below t,
-  judge-top.Post,
-  operand-at-reads.Asked,
-  operand-at-reads.Learnt,
-  contains-liveness-reads.Asked,
-  contains-liveness-reads.Learnt,
-) (judge-top-at t) judge-top.Post
+judge-top-returns : (t : ℕ) → judge-top-lts.Need-returns (judge-top-claims t) (judge-top-at t) judge-top.Post
 judge-top-returns t c = search (needs, judged-leaf)
 
-judge-top-add-judge-top : (t : ℕ) → judge-top-lts.Need-add-judge-top (
-  judge-top-below t,
-  judge-top.Post,
-  operand-at-reads.Asked,
-  operand-at-reads.Learnt,
-  contains-liveness-reads.Asked,
-  contains-liveness-reads.Learnt,
-) (judge-top-at t) judge-top.Post
+judge-top-add-judge-top : (t : ℕ) → judge-top-lts.Need-add-judge-top (judge-top-claims t) (judge-top-at t) judge-top.Post
 judge-top-add-judge-top t c = search needs
 
-judge-top-judge-top-requires : (t : ℕ) → judge-top-lts.Need-judge-top-requires (
-  judge-top-below t,
-  judge-top.Post,
-  operand-at-reads.Asked,
-  operand-at-reads.Learnt,
-  contains-liveness-reads.Asked,
-  contains-liveness-reads.Learnt,
-) (judge-top-at t) judge-top.Post
+judge-top-judge-top-requires : (t : ℕ) → judge-top-lts.Need-judge-top-requires (judge-top-claims t) (judge-top-at t) judge-top.Post
 judge-top-judge-top-requires t c κs = (search (needs, falls-next), search (needs, placed-next))
 
-judge-top-returns-2 : (t : ℕ) → judge-top-lts.Need-returns-2 (
-  judge-top-below t,
-  judge-top.Post,
-  operand-at-reads.Asked,
-  operand-at-reads.Learnt,
-  contains-liveness-reads.Asked,
-  contains-liveness-reads.Learnt,
-) (judge-top-at t) judge-top.Post
+judge-top-returns-2 : (t : ℕ) → judge-top-lts.Need-returns-2 (judge-top-claims t) (judge-top-at t) judge-top.Post
 judge-top-returns-2 t c = search (needs, judged-not)
 
-judge-top-add-operand-at : (t : ℕ) → judge-top-lts.Need-add-operand-at (
-  judge-top-below t,
-  judge-top.Post,
-  operand-at-reads.Asked,
-  operand-at-reads.Learnt,
-  contains-liveness-reads.Asked,
-  contains-liveness-reads.Learnt,
-) (judge-top-at t) judge-top.Post
+judge-top-add-operand-at : (t : ℕ) → judge-top-lts.Need-add-operand-at (judge-top-claims t) (judge-top-at t) judge-top.Post
 judge-top-add-operand-at t c = search needs
 
-judge-top-operand-at-requires : (t : ℕ) → judge-top-lts.Need-operand-at-requires (
-  judge-top-below t,
-  judge-top.Post,
-  operand-at-reads.Asked,
-  operand-at-reads.Learnt,
-  contains-liveness-reads.Asked,
-  contains-liveness-reads.Learnt,
-) (judge-top-at t) judge-top.Post
+judge-top-operand-at-requires : (t : ℕ) → judge-top-lts.Need-operand-at-requires (judge-top-claims t) (judge-top-at t) judge-top.Post
 judge-top-operand-at-requires t c κs = search (needs, placed-next)
 
-judge-top-returns-3 : (t : ℕ) → judge-top-lts.Need-returns-3 (
-  judge-top-below t,
-  judge-top.Post,
-  operand-at-reads.Asked,
-  operand-at-reads.Learnt,
-  contains-liveness-reads.Asked,
-  contains-liveness-reads.Learnt,
-) (judge-top-at t) judge-top.Post
+judge-top-returns-3 : (t : ℕ) → judge-top-lts.Need-returns-3 (judge-top-claims t) (judge-top-at t) judge-top.Post
 judge-top-returns-3 t c = search (needs, judged-eventually)
 
-judge-top-add-contains-liveness : (t : ℕ) → judge-top-lts.Need-add-contains-liveness (
-  judge-top-below t,
-  judge-top.Post,
-  operand-at-reads.Asked,
-  operand-at-reads.Learnt,
-  contains-liveness-reads.Asked,
-  contains-liveness-reads.Learnt,
-) (judge-top-at t) judge-top.Post
+judge-top-add-contains-liveness : (t : ℕ) → judge-top-lts.Need-add-contains-liveness (judge-top-claims t) (judge-top-at t) judge-top.Post
 judge-top-add-contains-liveness t c = search needs
 
-judge-top-contains-liveness-requires : (t : ℕ) → judge-top-lts.Need-contains-liveness-requires (
-  judge-top-below t,
-  judge-top.Post,
-  operand-at-reads.Asked,
-  operand-at-reads.Learnt,
-  contains-liveness-reads.Asked,
-  contains-liveness-reads.Learnt,
-) (judge-top-at t) judge-top.Post
+judge-top-contains-liveness-requires : (t : ℕ) → judge-top-lts.Need-contains-liveness-requires (judge-top-claims t) (judge-top-at t) judge-top.Post
 judge-top-contains-liveness-requires t c κs = search (needs, placed-next)
 
-judge-top-returns-4 : (t : ℕ) → judge-top-lts.Need-returns-4 (
-  judge-top-below t,
-  judge-top.Post,
-  operand-at-reads.Asked,
-  operand-at-reads.Learnt,
-  contains-liveness-reads.Asked,
-  contains-liveness-reads.Learnt,
-) (judge-top-at t) judge-top.Post
+judge-top-returns-4 : (t : ℕ) → judge-top-lts.Need-returns-4 (judge-top-claims t) (judge-top-at t) judge-top.Post
 judge-top-returns-4 t c = search (needs, judged-live)
 
-judge-top-returns-5 : (t : ℕ) → judge-top-lts.Need-returns-5 (
-  judge-top-below t,
-  judge-top.Post,
-  operand-at-reads.Asked,
-  operand-at-reads.Learnt,
-  contains-liveness-reads.Asked,
-  contains-liveness-reads.Learnt,
-) (judge-top-at t) judge-top.Post
+judge-top-returns-5 : (t : ℕ) → judge-top-lts.Need-returns-5 (judge-top-claims t) (judge-top-at t) judge-top.Post
 judge-top-returns-5 t c = search (needs, judged-calm)
 
-judge-top-add-judge-top-2 : (t : ℕ) → judge-top-lts.Need-add-judge-top-2 (
-  judge-top-below t,
-  judge-top.Post,
-  operand-at-reads.Asked,
-  operand-at-reads.Learnt,
-  contains-liveness-reads.Asked,
-  contains-liveness-reads.Learnt,
-) (judge-top-at t) judge-top.Post
+judge-top-add-judge-top-2 : (t : ℕ) → judge-top-lts.Need-add-judge-top-2 (judge-top-claims t) (judge-top-at t) judge-top.Post
 judge-top-add-judge-top-2 t c = search needs
 
-judge-top-judge-top-requires-2 : (t : ℕ) → judge-top-lts.Need-judge-top-requires-2 (
-  judge-top-below t,
-  judge-top.Post,
-  operand-at-reads.Asked,
-  operand-at-reads.Learnt,
-  contains-liveness-reads.Asked,
-  contains-liveness-reads.Learnt,
-) (judge-top-at t) judge-top.Post
+judge-top-judge-top-requires-2 : (t : ℕ) → judge-top-lts.Need-judge-top-requires-2 (judge-top-claims t) (judge-top-at t) judge-top.Post
 judge-top-judge-top-requires-2 t c κs = (search (needs, falls-next), search (needs, placed-next))
 
-judge-top-enum-known-left : (t : ℕ) → judge-top-lts.Need-enum-known-left (
-  judge-top-below t,
-  judge-top.Post,
-  operand-at-reads.Asked,
-  operand-at-reads.Learnt,
-  contains-liveness-reads.Asked,
-  contains-liveness-reads.Learnt,
-) (judge-top-at t) judge-top.Post
+judge-top-enum-known-left : (t : ℕ) → judge-top-lts.Need-enum-known-left (judge-top-claims t) (judge-top-at t) judge-top.Post
 judge-top-enum-known-left t c = search needs
 
-judge-top-enum-told : (t : ℕ) → judge-top-lts.Need-enum-told (
-  judge-top-below t,
-  judge-top.Post,
-  operand-at-reads.Asked,
-  operand-at-reads.Learnt,
-  contains-liveness-reads.Asked,
-  contains-liveness-reads.Learnt,
-) (judge-top-at t) judge-top.Post
+judge-top-enum-told : (t : ℕ) → judge-top-lts.Need-enum-told (judge-top-claims t) (judge-top-at t) judge-top.Post
 judge-top-enum-told t c = search needs
 
-judge-top-returns-6 : (t : ℕ) → judge-top-lts.Need-returns-6 (
-  judge-top-below t,
-  judge-top.Post,
-  operand-at-reads.Asked,
-  operand-at-reads.Learnt,
-  contains-liveness-reads.Asked,
-  contains-liveness-reads.Learnt,
-) (judge-top-at t) judge-top.Post
+judge-top-returns-6 : (t : ℕ) → judge-top-lts.Need-returns-6 (judge-top-claims t) (judge-top-at t) judge-top.Post
 judge-top-returns-6 t c = search (needs, judged-left)
 
-judge-top-judge-top-requires-3 : (t : ℕ) → judge-top-lts.Need-judge-top-requires-3 (
-  judge-top-below t,
-  judge-top.Post,
-  operand-at-reads.Asked,
-  operand-at-reads.Learnt,
-  contains-liveness-reads.Asked,
-  contains-liveness-reads.Learnt,
-) (judge-top-at t) judge-top.Post
+judge-top-judge-top-requires-3 : (t : ℕ) → judge-top-lts.Need-judge-top-requires-3 (judge-top-claims t) (judge-top-at t) judge-top.Post
 judge-top-judge-top-requires-3 t c κs = (search (needs, judged-falls), search (needs, judged-behind))
 
-judge-top-returns-7 : (t : ℕ) → judge-top-lts.Need-returns-7 (
-  judge-top-below t,
-  judge-top.Post,
-  operand-at-reads.Asked,
-  operand-at-reads.Learnt,
-  contains-liveness-reads.Asked,
-  contains-liveness-reads.Learnt,
-) (judge-top-at t) judge-top.Post
+judge-top-returns-7 : (t : ℕ) → judge-top-lts.Need-returns-7 (judge-top-claims t) (judge-top-at t) judge-top.Post
 judge-top-returns-7 t c = search (needs, judged-two)
 
-judge-top-add-operand-at-2 : (t : ℕ) → judge-top-lts.Need-add-operand-at-2 (
-  judge-top-below t,
-  judge-top.Post,
-  operand-at-reads.Asked,
-  operand-at-reads.Learnt,
-  contains-liveness-reads.Asked,
-  contains-liveness-reads.Learnt,
-) (judge-top-at t) judge-top.Post
+judge-top-add-operand-at-2 : (t : ℕ) → judge-top-lts.Need-add-operand-at-2 (judge-top-claims t) (judge-top-at t) judge-top.Post
 judge-top-add-operand-at-2 t c = search needs
 
-judge-top-operand-at-requires-2 : (t : ℕ) → judge-top-lts.Need-operand-at-requires-2 (
-  judge-top-below t,
-  judge-top.Post,
-  operand-at-reads.Asked,
-  operand-at-reads.Learnt,
-  contains-liveness-reads.Asked,
-  contains-liveness-reads.Learnt,
-) (judge-top-at t) judge-top.Post
+judge-top-operand-at-requires-2 : (t : ℕ) → judge-top-lts.Need-operand-at-requires-2 (judge-top-claims t) (judge-top-at t) judge-top.Post
 judge-top-operand-at-requires-2 t c κs = search (needs, placed-next)
 
-judge-top-enum-known-first : (t : ℕ) → judge-top-lts.Need-enum-known-first (
-  judge-top-below t,
-  judge-top.Post,
-  operand-at-reads.Asked,
-  operand-at-reads.Learnt,
-  contains-liveness-reads.Asked,
-  contains-liveness-reads.Learnt,
-) (judge-top-at t) judge-top.Post
+judge-top-enum-known-first : (t : ℕ) → judge-top-lts.Need-enum-known-first (judge-top-claims t) (judge-top-at t) judge-top.Post
 judge-top-enum-known-first t c = search needs
 
-judge-top-enum-told-2 : (t : ℕ) → judge-top-lts.Need-enum-told-2 (
-  judge-top-below t,
-  judge-top.Post,
-  operand-at-reads.Asked,
-  operand-at-reads.Learnt,
-  contains-liveness-reads.Asked,
-  contains-liveness-reads.Learnt,
-) (judge-top-at t) judge-top.Post
+judge-top-enum-told-2 : (t : ℕ) → judge-top-lts.Need-enum-told-2 (judge-top-claims t) (judge-top-at t) judge-top.Post
 judge-top-enum-told-2 t c = search needs
 
-judge-top-returns-8 : (t : ℕ) → judge-top-lts.Need-returns-8 (
-  judge-top-below t,
-  judge-top.Post,
-  operand-at-reads.Asked,
-  operand-at-reads.Learnt,
-  contains-liveness-reads.Asked,
-  contains-liveness-reads.Learnt,
-) (judge-top-at t) judge-top.Post
+judge-top-returns-8 : (t : ℕ) → judge-top-lts.Need-returns-8 (judge-top-claims t) (judge-top-at t) judge-top.Post
 judge-top-returns-8 t c = search (needs, until-left)
 
-judge-top-operand-at-requires-3 : (t : ℕ) → judge-top-lts.Need-operand-at-requires-3 (
-  judge-top-below t,
-  judge-top.Post,
-  operand-at-reads.Asked,
-  operand-at-reads.Learnt,
-  contains-liveness-reads.Asked,
-  contains-liveness-reads.Learnt,
-) (judge-top-at t) judge-top.Post
+judge-top-operand-at-requires-3 : (t : ℕ) → judge-top-lts.Need-operand-at-requires-3 (judge-top-claims t) (judge-top-at t) judge-top.Post
 judge-top-operand-at-requires-3 t c κs = search (needs, until-behind)
 
-judge-top-returns-9 : (t : ℕ) → judge-top-lts.Need-returns-9 (
-  judge-top-below t,
-  judge-top.Post,
-  operand-at-reads.Asked,
-  operand-at-reads.Learnt,
-  contains-liveness-reads.Asked,
-  contains-liveness-reads.Learnt,
-) (judge-top-at t) judge-top.Post
+judge-top-returns-9 : (t : ℕ) → judge-top-lts.Need-returns-9 (judge-top-claims t) (judge-top-at t) judge-top.Post
 judge-top-returns-9 t c = search (needs, until-two)
 
 pub +judge-top-spec : {M : Type 1} → statement M
-+judge-top-spec = close μ-judge-top λ t. judge-top-lts.spec (
-  judge-top-below t,
-  judge-top.Post,
-  operand-at-reads.Asked,
-  operand-at-reads.Learnt,
-  contains-liveness-reads.Asked,
-  contains-liveness-reads.Learnt,
-)
-    (judge-top-at t)
-    judge-top.Post
++judge-top-spec = close μ-judge-top λ t. judge-top-lts.spec (judge-top-claims t) (judge-top-at t) judge-top.Post
     (judge-top-shared-slice-read-op t)
     (judge-top-add-t12 t)
     (judge-top-returns t)

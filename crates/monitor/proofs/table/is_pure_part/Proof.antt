@@ -4,7 +4,7 @@ use Rattle.monitor.proofs.table.is_pure_part.Statement.{statement}
 use Rattle.monitor.proofs.table.is_pure_part.Tie as tie
 use Rattle.monitor.proofs.table.is_pure_part.Reads as reads
 use Rattle.monitor.proofs.table.is_pure_part.Lts as lts
-use Rattle.formula.proofs.signal.pure_at.Reads as pure-at-reads
+use Rattle.formula.proofs.signal.boolean_over_atoms.Reads as boolean-over-atoms-reads
 
 returns : tie.Need-returns
 returns c = search (needs, before-rule)
@@ -12,8 +12,8 @@ returns c = search (needs, before-rule)
 returns-2 : tie.Need-returns-2
 returns-2 c = search (needs, past-rule)
 
-pure-at-requires : tie.Need-pure-at-requires
-pure-at-requires c κs = search (needs, placed-part)
+boolean-over-atoms-requires : tie.Need-boolean-over-atoms-requires
+boolean-over-atoms-requires c κs = search (needs, placed-part)
 
 enum-told : tie.Need-enum-told
 enum-told c = search needs
@@ -30,4 +30,4 @@ returns-4 c = search (needs, pure-part)
 pub is-pure-part-spec : {M : Type 1} → statement M
 is-pure-part-spec =
     tie.close
-    (tie.spec returns returns-2 pure-at-requires enum-told enum-told-2 returns-3 returns-4)
+    (tie.spec returns returns-2 boolean-over-atoms-requires enum-told enum-told-2 returns-3 returns-4)

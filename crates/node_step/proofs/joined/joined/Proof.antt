@@ -5,16 +5,9 @@ use Rattle.node_step.proofs.joined.joined.Tie as tie
 use Rattle.node_step.proofs.joined.joined.Reads as reads
 use Rattle.node_step.proofs.joined.joined.Lts as lts
 use Rattle.node_step.proofs.joined.min_trigger_at.Reads as min-trigger-at-reads
-use Rattle.node_step.proofs.joined.offer.Reads as offer-reads
 
 returns : tie.Need-returns
 returns c = search (needs, joined-failed)
-
-offer-requires : tie.Need-offer-requires
-offer-requires c κs = search needs
-
-offer-requires-2 : tie.Need-offer-requires-2
-offer-requires-2 c κs = search needs
 
 min-trigger-at-requires : tie.Need-min-trigger-at-requires
 min-trigger-at-requires c κs = search needs
@@ -28,4 +21,4 @@ returns-3 c = search (needs, joined-quiet)
 pub joined-spec : {M : Type 1} → statement M
 joined-spec =
     tie.close
-    (tie.spec returns offer-requires offer-requires-2 min-trigger-at-requires returns-2 returns-3)
+    (tie.spec returns min-trigger-at-requires returns-2 returns-3)

@@ -1,20 +1,19 @@
-use Rattle.plan.proofs.Books.{Arranging, arranging-none, arranging-rowed, starts-length, bits-length, arranged, arranging-room, both-fit, property-fits, assumption-fits, arranging-more}
+use Rattle.plan.proofs.Books.{Arranging, arranging-none, arranging-rowed, starts-length, bits-length, arranged, arranging-room, first-property, first-assumption, both-fit, property-fits, assumption-fits, arranging-more}
 use Prim.Native.Nat.{_-_}
 use borrow.Author.Needs.{needs}
 use Rattle.plan.proofs.layout.arrange.Statement.{statement}
 use Rattle.plan.proofs.layout.arrange.Tie as tie
 use Rattle.plan.proofs.layout.arrange.Reads as reads
 use Rattle.plan.proofs.layout.arrange.Lts as lts
-use Rattle.plan.proofs.layout.assumption_at.Reads as assumption-at-reads
-use Rattle.plan.proofs.layout.property_at.Reads as property-at-reads
+use Rattle.plan.proofs.layout.chosen_bits.Reads as chosen-bits-reads
 use Rattle.plan.proofs.layout.property_bits.Reads as property-bits-reads
 use Rattle.plan.proofs.layout.store.Reads as store-reads
 
 abbrev Inv-loop : tie.InvT-loop
-Inv-loop kinds refusals nodes nfirsts ncounts n starts₀ bits₀ x₀ y₀ r₀ starts bits x y r = Arranging kinds refusals nodes nfirsts ncounts n starts₀ starts bits₀ bits x y r
+Inv-loop kinds refusals nodes nfirsts ncounts n base starts₀ bits₀ x₀ y₀ r₀ starts bits x y r = Arranging kinds refusals nodes nfirsts ncounts base n starts₀ starts bits₀ bits x y r
 
 abbrev μ-loop : tie.MeasureT-loop
-μ-loop kinds refusals nodes nfirsts ncounts n starts₀ bits₀ x₀ y₀ r₀ starts bits x y r = n - r
+μ-loop kinds refusals nodes nfirsts ncounts n base starts₀ bits₀ x₀ y₀ r₀ starts bits x y r = n - r
 
 property-bits-requires : tie.Need-property-bits-requires Inv-loop μ-loop
 property-bits-requires c κs = search needs
@@ -22,17 +21,23 @@ property-bits-requires c κs = search needs
 loop-holds : tie.Need-loop-holds Inv-loop μ-loop
 loop-holds c = search (needs, arranging-none)
 
-property-at-requires : tie.Need-property-at-requires Inv-loop μ-loop
-property-at-requires c κs = (search (needs, arranging-rowed), search needs)
+chosen-bits-requires : tie.Need-chosen-bits-requires Inv-loop μ-loop
+chosen-bits-requires c κs = (search (needs, arranging-rowed), search needs)
 
-assumption-at-requires : tie.Need-assumption-at-requires Inv-loop μ-loop
-assumption-at-requires c κs = (search (needs, arranging-rowed), search needs)
+chosen-bits-requires-2 : tie.Need-chosen-bits-requires-2 Inv-loop μ-loop
+chosen-bits-requires-2 c κs = (search (needs, arranging-rowed), search needs)
 
 add-store : tie.Need-add-store Inv-loop μ-loop
-add-store c = search (needs, both-fit)
+add-store c = search (needs, first-property)
+
+add-store-2 : tie.Need-add-store-2 Inv-loop μ-loop
+add-store-2 c = search (needs, first-assumption)
+
+add-store-3 : tie.Need-add-store-3 Inv-loop μ-loop
+add-store-3 c = search (needs, both-fit)
 
 store-requires : tie.Need-store-requires Inv-loop μ-loop
-store-requires c κs = arranging-room _ _ _ _ _ _ _ _ _ _ _ _ _ (c .before .before .before .before .before .loop .inv) (c .before .before .before .before .loop-test .taken)
+store-requires c κs = arranging-room _ _ _ _ _ _ _ _ _ _ _ _ _ _ (c .before .before .before .before .before .loop .inv) (c .before .before .before .before .loop-test .taken)
 
 add-x : tie.Need-add-x Inv-loop μ-loop
 add-x c = search (needs, property-fits)
@@ -66,9 +71,11 @@ arrange-spec =
     μ-loop
     property-bits-requires
     loop-holds
-    property-at-requires
-    assumption-at-requires
+    chosen-bits-requires
+    chosen-bits-requires-2
     add-store
+    add-store-2
+    add-store-3
     store-requires
     add-x
     add-y

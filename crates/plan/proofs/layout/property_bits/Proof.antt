@@ -5,7 +5,7 @@ use Rattle.plan.proofs.layout.property_bits.Statement.{statement}
 use Rattle.plan.proofs.layout.property_bits.Tie as tie
 use Rattle.plan.proofs.layout.property_bits.Reads as reads
 use Rattle.plan.proofs.layout.property_bits.Lts as lts
-use Rattle.plan.proofs.layout.property_at.Reads as property-at-reads
+use Rattle.plan.proofs.layout.chosen_bits.Reads as chosen-bits-reads
 
 abbrev Inv-loop : tie.InvT-loop
 Inv-loop kinds refusals nodes nfirsts ncounts n sum₀ r₀ sum r = Tallied kinds refusals nodes nfirsts ncounts n sum r
@@ -16,8 +16,8 @@ abbrev μ-loop : tie.MeasureT-loop
 loop-holds : tie.Need-loop-holds Inv-loop μ-loop
 loop-holds c = search (needs, tallied-none)
 
-property-at-requires : tie.Need-property-at-requires Inv-loop μ-loop
-property-at-requires c κs = (search (needs, tallied-rowed), search needs)
+chosen-bits-requires : tie.Need-chosen-bits-requires Inv-loop μ-loop
+chosen-bits-requires c κs = (search (needs, tallied-rowed), search needs)
 
 add-sum : tie.Need-add-sum Inv-loop μ-loop
 add-sum c = search (needs, tallied-fits)
@@ -41,7 +41,7 @@ property-bits-spec =
     Inv-loop
     μ-loop
     loop-holds
-    property-at-requires
+    chosen-bits-requires
     add-sum
     add-r
     loop-less

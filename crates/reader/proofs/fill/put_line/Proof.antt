@@ -1,4 +1,4 @@
-use Rattle.reader.proofs.Fills.{rule-start, rule-len, line-rule-room, line-rule-put, line-node-room, line-node-put, line-kept}
+use Rattle.reader.proofs.Fills.{line-none, rule-start, rule-len, line-rule-room, line-node-room, line-rule-put, line-node-put, line-kept}
 use borrow.Author.Needs.{needs}
 use Rattle.reader.proofs.fill.put_line.Statement.{statement}
 use Rattle.reader.proofs.fill.put_line.Tie as tie
@@ -16,6 +16,12 @@ read-line-requires c κs = search needs
 enum-known-l : tie.Need-enum-known-l
 enum-known-l c = search needs
 
+returns : tie.Need-returns
+returns c = search (needs, line-none)
+
+enum-known-c : tie.Need-enum-known-c
+enum-known-c c = search needs
+
 past-requires : tie.Need-past-requires
 past-requires c κs = search (needs, rule-start)
 
@@ -25,11 +31,14 @@ upto-requires c κs = search (needs, rule-len)
 put-rule-requires : tie.Need-put-rule-requires
 put-rule-requires c κs = search (needs, line-rule-room)
 
-enum-known-l-2 : tie.Need-enum-known-l-2
-enum-known-l-2 c = search needs
+enum-known-c-2 : tie.Need-enum-known-c-2
+enum-known-c-2 c = search needs
 
 put-node-requires : tie.Need-put-node-requires
 put-node-requires c κs = search (needs, line-node-room)
+
+enum-told : tie.Need-enum-told
+enum-told c = search needs
 
 same-length : tie.Need-same-length
 same-length c = search needs
@@ -46,8 +55,8 @@ same-length-4 c = search needs
 same-length-5 : tie.Need-same-length-5
 same-length-5 c = search needs
 
-returns : tie.Need-returns
-returns c = search (needs, line-rule-put)
+returns-2 : tie.Need-returns-2
+returns-2 c = search (needs, line-rule-put)
 
 same-length-6 : tie.Need-same-length-6
 same-length-6 c = search needs
@@ -58,11 +67,11 @@ same-length-7 c = search needs
 same-length-8 : tie.Need-same-length-8
 same-length-8 c = search needs
 
-returns-2 : tie.Need-returns-2
-returns-2 c = search (needs, line-node-put)
-
 returns-3 : tie.Need-returns-3
-returns-3 c = search (needs, line-kept)
+returns-3 c = search (needs, line-node-put)
+
+returns-4 : tie.Need-returns-4
+returns-4 c = search (needs, line-kept)
 
 pub put-line-spec : {M : Type 1} → statement M
 put-line-spec =
@@ -70,19 +79,22 @@ put-line-spec =
     (tie.spec
     read-line-requires
     enum-known-l
+    returns
+    enum-known-c
     past-requires
     upto-requires
     put-rule-requires
-    enum-known-l-2
+    enum-known-c-2
     put-node-requires
+    enum-told
     same-length
     same-length-2
     same-length-3
     same-length-4
     same-length-5
-    returns
+    returns-2
     same-length-6
     same-length-7
     same-length-8
-    returns-2
-    returns-3)
+    returns-3
+    returns-4)

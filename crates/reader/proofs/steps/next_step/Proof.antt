@@ -1,4 +1,4 @@
-use Rattle.reader.proofs.BookSteps.{next-past, next-unended, next-step, next-other}
+use Rattle.reader.proofs.BookSteps.{next-past, next-unended, next-none, next-other, next-step}
 use borrow.Author.Needs.{needs}
 use Rattle.reader.proofs.steps.next_step.Statement.{statement}
 use Rattle.reader.proofs.steps.next_step.Tie as tie
@@ -30,17 +30,23 @@ read-line-requires c κs = search needs
 enum-known-l : tie.Need-enum-known-l
 enum-known-l c = search needs
 
-add-t12 : tie.Need-add-t12
-add-t12 c = search needs
-
-add-t13 : tie.Need-add-t13
-add-t13 c = search needs
-
 returns-3 : tie.Need-returns-3
-returns-3 c = search (needs, next-step)
+returns-3 c = search (needs, next-none)
+
+enum-known-c : tie.Need-enum-known-c
+enum-known-c c = search needs
 
 returns-4 : tie.Need-returns-4
 returns-4 c = search (needs, next-other)
+
+add-t9 : tie.Need-add-t9
+add-t9 c = search needs
+
+add-t12 : tie.Need-add-t12
+add-t12 c = search needs
+
+returns-5 : tie.Need-returns-5
+returns-5 c = search (needs, next-step)
 
 pub next-step-spec : {M : Type 1} → statement M
 next-step-spec =
@@ -53,7 +59,9 @@ next-step-spec =
     upto-requires
     read-line-requires
     enum-known-l
-    add-t12
-    add-t13
     returns-3
-    returns-4)
+    enum-known-c
+    returns-4
+    add-t9
+    add-t12
+    returns-5)

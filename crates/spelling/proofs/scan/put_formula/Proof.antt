@@ -4,11 +4,11 @@ use Rattle.spelling.proofs.scan.put_formula.Statement.{statement}
 use Rattle.spelling.proofs.scan.put_formula.Tie as tie
 use Rattle.spelling.proofs.scan.put_formula.Reads as reads
 use Rattle.spelling.proofs.scan.put_formula.Lts as lts
-use Rattle.formula.proofs.signal.pure_at.Reads as pure-at-reads
+use Rattle.formula.proofs.signal.boolean_over_atoms.Reads as boolean-over-atoms-reads
 use Rattle.spelling.proofs.scan.put_run.Reads as put-run-reads
 
-pure-at-requires : tie.Need-pure-at-requires
-pure-at-requires c κs = search needs
+boolean-over-atoms-requires : tie.Need-boolean-over-atoms-requires
+boolean-over-atoms-requires c κs = search needs
 
 enum-known-walk : tie.Need-enum-known-walk
 enum-known-walk c = search needs
@@ -32,7 +32,7 @@ pub put-formula-spec : {M : Type 1} → statement M
 put-formula-spec =
     tie.close
     (tie.spec
-    pure-at-requires
+    boolean-over-atoms-requires
     enum-known-walk
     enum-told
     returns

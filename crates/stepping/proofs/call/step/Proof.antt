@@ -1,21 +1,17 @@
-use Rattle.stepping.proofs.Calling.{call-goes-on, known-here, not-compiled, not-lent}
+use Rattle.stepping.proofs.Calling.{step-fits, step-late, step-refused, step-taken}
 use borrow.Author.Needs.{needs}
 use Rattle.stepping.proofs.call.step.Statement.{statement}
 use Rattle.stepping.proofs.call.step.Tie as tie
 use Rattle.stepping.proofs.call.step.Reads as reads
 use Rattle.stepping.proofs.call.step.Lts as lts
-use Rattle.monitor.proofs.table.is_compiled.Reads as is-compiled-reads
-use Rattle.lent.proofs.room.is_lent.Reads as is-lent-reads
-use Rattle.stepping.proofs.call.step_compiled.Reads as step-compiled-reads
+use Rattle.lent.proofs.refusal.refusal_of.Reads as refusal-of-reads
+use Rattle.stepping.proofs.call.step_fit.Reads as step-fit-reads
 
-is-lent-requires : tie.Need-is-lent-requires
-is-lent-requires c κs = search needs
+refusal-of-requires : tie.Need-refusal-of-requires
+refusal-of-requires c κs = search needs
 
-is-compiled-requires : tie.Need-is-compiled-requires
-is-compiled-requires c κs = search needs
-
-step-compiled-requires : tie.Need-step-compiled-requires
-step-compiled-requires c κs = known-here _ _ 0 0 _ (c .before .before .before .before .before .before .before .is-lent .ensures) (c .before .before .before .before .before .before .if1 .taken) _ (c .before .before .before .before .before .is-compiled .ensures) (c .before .before .before .before .if2 .taken)
+step-fit-requires : tie.Need-step-fit-requires
+step-fit-requires c κs = step-fits _ _ _ 0 _ (c .before .before .before .before .before .before .refusal-of .ensures) (c .before .before .before .before .before .if1 .taken) (c .before .before .before .before .if2 .taken)
 
 same-length : tie.Need-same-length
 same-length c = search needs
@@ -30,7 +26,7 @@ same-length-4 : tie.Need-same-length-4
 same-length-4 c = search needs
 
 returns : tie.Need-returns
-returns c = search (needs, call-goes-on)
+returns c = search (needs, step-taken)
 
 same-length-5 : tie.Need-same-length-5
 same-length-5 c = search needs
@@ -45,7 +41,7 @@ same-length-8 : tie.Need-same-length-8
 same-length-8 c = search needs
 
 returns-2 : tie.Need-returns-2
-returns-2 c = search (needs, not-compiled)
+returns-2 c = search (needs, step-late)
 
 same-length-9 : tie.Need-same-length-9
 same-length-9 c = search needs
@@ -60,15 +56,14 @@ same-length-12 : tie.Need-same-length-12
 same-length-12 c = search needs
 
 returns-3 : tie.Need-returns-3
-returns-3 c = search (needs, not-lent)
+returns-3 c = search (needs, step-refused)
 
 pub step-spec : {M : Type 1} → statement M
 step-spec =
     tie.close
     (tie.spec
-    is-lent-requires
-    is-compiled-requires
-    step-compiled-requires
+    refusal-of-requires
+    step-fit-requires
     same-length
     same-length-2
     same-length-3

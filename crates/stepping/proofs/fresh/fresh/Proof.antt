@@ -1,4 +1,5 @@
-use Rattle.stepping.proofs.Filling.{made-all, made-none, made-short, make-ready}
+use Rattle.lent.proofs.Refusals.{spanned}
+use Rattle.stepping.proofs.Filling.{made-all, made-none, made-short}
 use borrow.Author.Needs.{needs}
 use Rattle.stepping.proofs.fresh.fresh.Statement.{statement}
 use Rattle.stepping.proofs.fresh.fresh.Tie as tie
@@ -15,7 +16,7 @@ is-compiled-requires : tie.Need-is-compiled-requires
 is-compiled-requires c κs = search needs
 
 make-requires : tie.Need-make-requires
-make-requires c κs = make-ready (record { ops = c .before .before .before .before .before .before .before .before .before .before .before .before .before .before .before .before .before .before .before .before .before .before .before .before .args .ops .now; nums = c .before .before .before .before .before .before .before .before .before .before .before .before .before .before .before .before .before .before .before .before .before .before .before .before .args .nums .now; first = c .before .before .before .before .before .before .before .before .before .before .before .before .before .before .before .before .before .before .before .before .before .before .before .before .args .first; count = c .before .before .before .before .before .before .before .before .before .before .before .before .before .before .before .before .before .before .before .before .before .before .before .before .args .count; nodes = c .before .before .before .before .before .before .before .before .before .before .before .before .before .before .before .before .before .before .before .before .before .before .before .before .args .nodes .now; nfirst = c .before .before .before .before .before .before .before .before .before .before .before .before .before .before .before .before .before .before .before .before .before .before .before .before .args .nfirst; ncount = c .before .before .before .before .before .before .before .before .before .before .before .before .before .before .before .before .before .before .before .before .before .before .before .before .args .ncount }) _ _ _ _ (c .before .before .before .before .before .before .before .before .before .is-lent .ensures) (c .before .before .before .before .before .before .before .before .if1 .taken) _ (c .before .before .before .before .before .before .before .is-compiled .ensures) (c .before .before .before .before .before .before .if2 .taken)
+make-requires c κs = spanned _ _ _ _ _ _ _ _ _ _ _ (c .before .before .before .before .before .before .before .before .before .is-lent .ensures) (c .before .before .before .before .before .before .before .before .if1 .taken) _ (c .before .before .before .before .before .before .before .is-compiled .ensures) (c .before .before .before .before .before .before .if2 .taken)
 
 same-length : tie.Need-same-length
 same-length c = search needs

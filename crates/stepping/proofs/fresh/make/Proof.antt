@@ -4,9 +4,7 @@ use Rattle.stepping.proofs.fresh.make.Statement.{statement}
 use Rattle.stepping.proofs.fresh.make.Tie as tie
 use Rattle.stepping.proofs.fresh.make.Reads as reads
 use Rattle.stepping.proofs.fresh.make.Lts as lts
-use Rattle.stepping.proofs.fresh.clear_culprits.Reads as clear-culprits-reads
-use Rattle.stepping.proofs.fresh.clear_flags.Reads as clear-flags-reads
-use Rattle.stepping.proofs.fresh.clear_numbers.Reads as clear-numbers-reads
+use Rattle.stepping.proofs.fresh.clear.Reads as clear-reads
 use Rattle.stepping.proofs.fresh.copy_column.Reads as copy-column-reads
 
 copy-column-requires : tie.Need-copy-column-requires
@@ -15,17 +13,8 @@ copy-column-requires c κs = search needs
 copy-column-requires-2 : tie.Need-copy-column-requires-2
 copy-column-requires-2 c κs = search needs
 
-clear-flags-requires : tie.Need-clear-flags-requires
-clear-flags-requires c κs = search needs
-
-clear-numbers-requires : tie.Need-clear-numbers-requires
-clear-numbers-requires c κs = search needs
-
-clear-flags-requires-2 : tie.Need-clear-flags-requires-2
-clear-flags-requires-2 c κs = search needs
-
-clear-culprits-requires : tie.Need-clear-culprits-requires
-clear-culprits-requires c κs = search needs
+clear-requires : tie.Need-clear-requires
+clear-requires c κs = search needs
 
 same-length : tie.Need-same-length
 same-length c = search needs
@@ -54,10 +43,7 @@ make-spec =
     (tie.spec
     copy-column-requires
     copy-column-requires-2
-    clear-flags-requires
-    clear-numbers-requires
-    clear-flags-requires-2
-    clear-culprits-requires
+    clear-requires
     same-length
     same-length-2
     same-length-3

@@ -1,6 +1,6 @@
 use lib.ListN.{length}
 use Rattle.reader.specs.Steps.{stepsFrom}
-use Rattle.table_step.specs.Over.{over}
+use Rattle.table_step.specs.Over.{tablesOver}
 use Rattle.watch.proofs.Watching.{Left, left-first, left-end, fewer, left-stops, left-next}
 use borrow.Author.Needs.{needs}
 use Rattle.watch.proofs.rule.watch_steps.Statement.{statement}
@@ -14,7 +14,7 @@ use Rattle.watch.proofs.rule.on_step.Reads as on-step-reads
 
 abbrev Inv-loop : tie.InvT-loop
 Inv-loop text from table first count nodes ncount k₀ at₀ k at =
-    Left (over table first count nodes 0 ncount) k₀ text from k at
+    Left (tablesOver table first count nodes 0 ncount) k₀ text from k at
 
 abbrev μ-loop : tie.MeasureT-loop
 μ-loop text from table first count nodes ncount k₀ at₀ k at = length (stepsFrom text at)

@@ -1,0 +1,31 @@
+use Rattle.book.proofs.States.{late-rule, rule-stands, node-stands, step-stands}
+use borrow.Author.Needs.{needs}
+use Rattle.book.proofs.state.stands.Statement.{statement}
+use Rattle.book.proofs.state.stands.Tie as tie
+use Rattle.book.proofs.state.stands.Reads as reads
+use Rattle.book.proofs.state.stands.Lts as lts
+
+enum-told : tie.Need-enum-told
+enum-told c = search needs
+
+returns : tie.Need-returns
+returns c = search (needs, late-rule)
+
+enum-told-2 : tie.Need-enum-told-2
+enum-told-2 c = search needs
+
+enum-told-3 : tie.Need-enum-told-3
+enum-told-3 c = search needs
+
+returns-2 : tie.Need-returns-2
+returns-2 c = search (needs, rule-stands)
+
+returns-3 : tie.Need-returns-3
+returns-3 c = search (needs, node-stands)
+
+returns-4 : tie.Need-returns-4
+returns-4 c = search (needs, step-stands)
+
+pub stands-spec : {M : Type 1} → statement M
+stands-spec =
+    tie.close (tie.spec enum-told returns enum-told-2 enum-told-3 returns-2 returns-3 returns-4)
