@@ -7,6 +7,8 @@ use reader::steps::StepRead;
 use reader::steps::next_step;
 use terms::limit::BOOK_NODES;
 use terms::limit::BOOK_RULES;
+use terms::limit::LABEL_BYTES;
+use terms::limit::LABELS_ROOM;
 
 // The most places that a table here has.
 const PLACES: usize = 2050;
@@ -140,7 +142,7 @@ fn told_all(
         ops,
         nums,
         0,
-        32 * rules,
+        LABEL_BYTES * rules,
         46,
     ));
     told(kept(labels, lens, kinds, firsts, counts, ops, nums, 1, rules, 7));
@@ -163,8 +165,8 @@ fn show_rule(
     if BOOK_RULES <= i {
         return;
     }
-    let a = 32 * i;
-    let e = a + 32;
+    let a = LABEL_BYTES * i;
+    let e = a + LABEL_BYTES;
     if labels.len() < e {
         return;
     }
@@ -316,7 +318,7 @@ fn read_text(text: &[u8]) {
 
 // Tables that are too short: refusal 1, before 3.
 fn read_short(text: &[u8]) {
-    let mut labels = [46u8; 2048];
+    let mut labels = [46u8; LABELS_ROOM];
     let mut lens = [7usize; BOOK_RULES];
     let mut kinds = [7u8; BOOK_RULES];
     let mut firsts = [7usize; BOOK_RULES];

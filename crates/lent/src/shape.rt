@@ -148,7 +148,7 @@ fn is_shaped(
 }
 
 // Whether a lent monitor has n nodes, and an entry that fits each of the n rows.
-pub fn is_fit(
+pub(crate) fn is_fit(
     nodes: &[u64],
     nfirst: usize,
     n: usize,

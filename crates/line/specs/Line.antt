@@ -7,7 +7,7 @@ use mathlib.Core.List.{List, [], _∷_}
 use Prim.Native.Nat.{ℕ, zero, suc}
 use lib.Dec.{leb, ltb, eqb}
 use lib.ListN.{length}
-use Rattle.terms.specs.Limits.{signals, steps}
+use Rattle.terms.specs.Limits.{labelBytes, signals, steps}
 use Rattle.terms.specs.Kinds.{propertyKind, assumptionKind, kinds}
 use Rattle.terms.specs.Choice.{pick}
 use Rattle.number.specs.Number.{decimalOf, hexOf}
@@ -48,7 +48,7 @@ printable [] = true
 printable (b ∷ r) = (leb 33 b && leb b 126) && printable r
 
 unfoldable pub isLabel : List ℕ → Bool
-isLabel l = leb 1 (length l) && (leb (length l) 32 && printable l)
+isLabel l = leb 1 (length l) && (leb (length l) labelBytes && printable l)
 
 -- a kind: `P` property, `A` assumption
 unfoldable pub kindOf : List ℕ → ℕ

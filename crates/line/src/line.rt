@@ -11,6 +11,7 @@ use number::hex;
 use terms::kind::ASSUMPTION;
 use terms::kind::KINDS;
 use terms::kind::PROPERTY;
+use terms::limit::LABEL_BYTES;
 use terms::limit::SIGNALS;
 use terms::limit::STEPS;
 ghost use mathlib.Core.Path.{_≡_};
@@ -78,7 +79,7 @@ fn is_label(s: &[u8]) -> bool
     if s.len() == 0 {
         return false;
     }
-    if 32 < s.len() {
+    if LABEL_BYTES < s.len() {
         return false;
     }
     let mut i: usize = 0;

@@ -3,7 +3,7 @@ use mathlib.Core.List.{List}
 use mathlib.Core.Path.{_≡_}
 use Prim.Native.Nat.{ℕ, _+_, _*_, _≤_, _<_}
 use lib.ListN.{length, getD, take, drop}
-use Rattle.terms.specs.Limits.{bookRules}
+use Rattle.terms.specs.Limits.{bookRules, labelBytes, labelsRoom}
 use Rattle.reader.specs.Tables.{BookTables}
 use Rattle.text.specs.Tape.{Tape, Wrote}
 use Rattle.listing_line.specs.declared.rule.Compiling.{Compiling}
@@ -34,10 +34,10 @@ lists book nodes nfirsts ncounts refusals starts bits = record {
 
 -- each label stands in front of its own 32 bytes
 pub record Labelled (labels lens : List ℕ) (R : ℕ → Rule) (n : ℕ) : Type 0 where
-  pub in-labels : 2048 ≤ length labels
+  pub in-labels : labelsRoom ≤ length labels
   pub in-lens : bookRules ≤ length lens
-  pub inside : (r : ℕ) → r < n → 32 * r + getD lens r 0 ≤ 2048
-  pub label : (r : ℕ) → r < n → take (getD lens r 0) (drop (32 * r) labels) ≡ R r .label
+  pub inside : (r : ℕ) → r < n → labelBytes * r + getD lens r 0 ≤ labelsRoom
+  pub label : (r : ℕ) → r < n → take (getD lens r 0) (drop (labelBytes * r) labels) ≡ R r .label
 
 -- the tables hold the first n rules of R
 pub record HoldsRules (t : BookTables) (R : ℕ → Rule) (n : ℕ) : Type 0 where

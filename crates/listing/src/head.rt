@@ -7,6 +7,7 @@ use listing_rules::fields::compiling_at;
 use listing_rules::place::place_rules;
 use listing_section::section::put_section;
 use terms::limit::BOOK_RULES;
+use terms::limit::LABEL_BYTES;
 ghost use Rattle.reader.specs.Tables.{columns};
 ghost use Rattle.text.specs.Tape.{tape};
 ghost use Rattle.listing.specs.Ready.{lists, Readied, RuleReady, RuleListed, RulesListed};
@@ -39,7 +40,7 @@ pub(crate) fn put_rule_at(
         (now (counts .entry)) (now (ops .entry)) (now (nums .entry))) (now (nodes .entry)) (now (nfirsts .entry)) (now (ncounts .entry))
         (now (refusals .entry)) (now (starts .entry)) (now (bits .entry))) n r c (tape (now (out .entry)) at) (tape (now (out .exit)) e) ⌝ }
 {
-    let rest = past(labels, 32 * r);
+    let rest = past(labels, LABEL_BYTES * r);
     let label = upto(rest, lens[r]);
     put_section(
         out,

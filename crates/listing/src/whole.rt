@@ -6,6 +6,7 @@ use reader::read::Answer;
 use reader::read::read_book;
 use terms::limit::BOOK_NODES;
 use terms::limit::BOOK_RULES;
+use terms::limit::LABELS_ROOM;
 use terms::limit::LISTING_BYTES;
 ghost use Rattle.text.specs.Tape.{tape, Wrote};
 ghost use Rattle.listing_text.specs.Listing.{listing};
@@ -76,7 +77,7 @@ fn list_accepted(
 fn list_text(text: &[u8], out: &mut [u8]) -> usize
     ensures { λ r. ⌜ Wrote (tape (now (out .entry)) 0) (listing (now (text .entry))) (tape (now (out .exit)) r) ⌝ }
 {
-    let mut labels: [u8; 2048] = [0; 2048];
+    let mut labels: [u8; LABELS_ROOM] = [0; LABELS_ROOM];
     let mut lens: [usize; BOOK_RULES] = [0; BOOK_RULES];
     let mut kinds: [u8; BOOK_RULES] = [0; BOOK_RULES];
     let mut firsts: [usize; BOOK_RULES] = [0; BOOK_RULES];

@@ -4,7 +4,7 @@ use mathlib.Core.Path.{_≡_}
 use mathlib.Core.List.{List}
 use Prim.Native.Nat.{ℕ, _+_, _*_, _≤_, _<_}
 use lib.ListN.{length, getD, take, drop}
-use Rattle.terms.specs.Limits.{bookRules}
+use Rattle.terms.specs.Limits.{bookRules, labelBytes, labelsRoom}
 use Rattle.book.specs.Book.{Book, accepted, read}
 use Rattle.reader.specs.Tables.{BookTables}
 use Rattle.reader.specs.Steps.{stepsFrom}
@@ -18,9 +18,9 @@ pub record Handed (text : List ℕ) (t : BookTables) (rules steps-at : ℕ) : Ty
   pub held : Held (t .ops) (t .nums) (t .kinds) (t .firsts) (t .counts) (ruleAt book) rules
   -- rule r's label: the first of its own 32 bytes
   pub len : (r : ℕ) → r < rules → getD (t .lens) r 0 ≡ length (ruleAt book r .label)
-  pub label : (r : ℕ) → r < rules → take (getD (t .lens) r 0) (drop (32 * r) (t .labels)) ≡ ruleAt book r .label
-  pub in-label : (r : ℕ) → r < rules → 32 * r + getD (t .lens) r 0 ≤ 2048
-  pub in-labels : 2048 ≤ length (t .labels)
+  pub label : (r : ℕ) → r < rules → take (getD (t .lens) r 0) (drop (labelBytes * r) (t .labels)) ≡ ruleAt book r .label
+  pub in-label : (r : ℕ) → r < rules → labelBytes * r + getD (t .lens) r 0 ≤ labelsRoom
+  pub in-labels : labelsRoom ≤ length (t .labels)
   pub in-lens : bookRules ≤ length (t .lens)
   -- the text's listing, by the rules and the steps from that place on
   pub lists : listing text ≡ rulesListing (ruleAt book) rules (stepsFrom text steps-at)

@@ -4,7 +4,7 @@ use mathlib.Core.Path.{_≡_}
 use mathlib.Core.List.{List}
 use Prim.Native.Nat.{ℕ, _≤_}
 use lib.ListN.{length}
-use Rattle.terms.specs.Limits.{bookNodes, bookRules}
+use Rattle.terms.specs.Limits.{bookNodes, bookRules, labelsRoom}
 use Rattle.book.specs.Book.{BookResult, contents, refusal, bookResult}
 use Rattle.reader.specs.Tables.{BookTables, readInto, after}
 use Rattle.reader.specs.declared.read.Answer.{Answer}
@@ -21,7 +21,7 @@ pub record Reads (text : List ℕ) (t : BookTables) (r : Answer) (t′ : BookTab
 
 -- the room of every table
 pub record Roomy (t : BookTables) : Type 0 where
-  pub labels : 2048 ≤ length (t .labels)
+  pub labels : labelsRoom ≤ length (t .labels)
   pub lens : bookRules ≤ length (t .lens)
   pub kinds : bookRules ≤ length (t .kinds)
   pub firsts : bookRules ≤ length (t .firsts)

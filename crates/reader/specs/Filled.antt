@@ -4,7 +4,7 @@ use mathlib.Core.Bool.{true}
 use mathlib.Core.List.{List, [], _∷_, _++_}
 use Prim.Native.Nat.{ℕ, suc, _+_, _-_, _*_, _≤_, _<_}
 use lib.ListN.{length, take, drop, set}
-use Rattle.terms.specs.Limits.{bookNodes, bookRules, ruleNodes}
+use Rattle.terms.specs.Limits.{bookNodes, bookRules, labelBytes, labelsRoom, ruleNodes}
 use Rattle.line.specs.Line.{Content, rule, node, step, right, parse}
 use Rattle.book.specs.Book.{Book, accepted, read}
 use Rattle.reader.specs.Tables.{BookTables, written, roomy}
@@ -15,16 +15,16 @@ abbrev pub placed : List ℕ → ℕ → List ℕ → List ℕ
 placed l k xs = take k l ++ xs ++ drop (k + length xs) l
 
 pub record RuleRoom (labels lens kinds firsts counts label : List ℕ) (f : Tally) : Type 0 where
-  pub in-labels : 2048 ≤ length labels
+  pub in-labels : labelsRoom ≤ length labels
   pub in-lens : bookRules ≤ length lens
   pub in-kinds : bookRules ≤ length kinds
   pub in-firsts : bookRules ≤ length firsts
   pub in-counts : bookRules ≤ length counts
   pub few : f .rules < bookRules
-  pub short : length label ≤ 32
+  pub short : length label ≤ labelBytes
 
 pub record RulePut (labels lens kinds firsts counts label : List ℕ) (kind : ℕ) (f : Tally) (labels′ lens′ kinds′ firsts′ counts′ : List ℕ) (r : Tally) : Type 0 where
-  pub labels-is : labels′ ≡ placed labels (32 * f .rules) label
+  pub labels-is : labels′ ≡ placed labels (labelBytes * f .rules) label
   pub lens-is : lens′ ≡ set lens (f .rules) (length label)
   pub kinds-is : kinds′ ≡ set kinds (f .rules) kind
   pub firsts-is : firsts′ ≡ set firsts (f .rules) (f .nodes)

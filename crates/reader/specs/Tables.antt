@@ -8,7 +8,7 @@ use mathlib.Core.List.{List, [], _∷_, _++_, map}
 use Prim.Native.Nat.{ℕ}
 use lib.Dec.{leb}
 use lib.ListN.{length, take, drop}
-use Rattle.terms.specs.Limits.{bookNodes, bookRules}
+use Rattle.terms.specs.Limits.{bookNodes, bookRules, labelBytes, labelsRoom}
 use Rattle.terms.specs.Choice.{pick}
 use Rattle.book.specs.Book.{Book, Outcome, accepted, refused, read}
 
@@ -39,7 +39,7 @@ over xs l = xs ++ drop (length xs) l
 -- labels, each in front of its own 32 bytes
 unfoldable pub cells : List (List ℕ) → List ℕ → List ℕ
 cells [] l = l
-cells (x ∷ xs) l = (x ++ drop (length x) (take 32 l)) ++ cells xs (drop 32 l)
+cells (x ∷ xs) l = (x ++ drop (length x) (take labelBytes l)) ++ cells xs (drop labelBytes l)
 
 unfoldable pub written : Book → BookTables → BookTables
 written b t = record {
@@ -55,7 +55,7 @@ written b t = record {
 -- room for 64 rules and 1,024 formula nodes
 unfoldable pub roomy : BookTables → Bool
 roomy t =
-    leb 2048 (length (t .labels))
+    leb labelsRoom (length (t .labels))
     && (leb bookRules (length (t .lens))
     && (leb bookRules (length (t .kinds))
     && (leb bookRules (length (t .firsts))

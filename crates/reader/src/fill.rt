@@ -5,6 +5,7 @@ use line::line::read_line;
 use line::text::find;
 use line::text::past;
 use line::text::upto;
+use terms::limit::LABEL_BYTES;
 ghost use mathlib.Core.Path.{_≡_};
 ghost use Prim.Native.Nat.{_+_, _*_, _≤_, _<_};
 ghost use lib.ListN.{length};
@@ -48,7 +49,7 @@ fn put_rule(
     let r = f.rules;
     let n = f.nodes;
     let len = label.len();
-    copy_in(labels, 32 * r, label);
+    copy_in(labels, LABEL_BYTES * r, label);
     lens[r] = len;
     kinds[r] = kind;
     firsts[r] = n;

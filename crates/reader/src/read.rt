@@ -4,6 +4,7 @@ use book::check::Checked;
 use book::check::check;
 use terms::limit::BOOK_NODES;
 use terms::limit::BOOK_RULES;
+use terms::limit::LABELS_ROOM;
 ghost use Rattle.reader.specs.Tables.{columns};
 ghost use Rattle.reader.specs.Answer.{Roomy, Reads};
 
@@ -67,7 +68,7 @@ fn read_tested(
         (now (nums .entry))) r (columns (now (labels .exit)) (now (lens .exit)) (now (kinds .exit)) (now (firsts .exit)) (now (counts .exit))
         (now (ops .exit)) (now (nums .exit))) ⌝ }
 {
-    if labels.len() < 2048 {
+    if labels.len() < LABELS_ROOM {
         return Answer::Refused { number: 1, line: 0 };
     }
     if lens.len() < BOOK_RULES {

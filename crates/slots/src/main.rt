@@ -19,6 +19,7 @@ use reader::read::Answer;
 use reader::read::read_book;
 use terms::limit::BOOK_NODES;
 use terms::limit::BOOK_RULES;
+use terms::limit::LABELS_ROOM;
 ghost use Prim.Native.Nat.{_≤_};
 ghost use Rattle.terms.specs.Limits.{bookRules};
 
@@ -118,7 +119,7 @@ fn run_rules(
 }
 
 fn run_book(text: &[u8]) {
-    let mut labels = [0u8; 2048];
+    let mut labels = [0u8; LABELS_ROOM];
     let mut lens = [0usize; BOOK_RULES];
     let mut kinds = [0u8; BOOK_RULES];
     let mut firsts = [0usize; BOOK_RULES];

@@ -13,6 +13,13 @@ ruleNodes = 256
 abbrev pub bookRules : ℕ
 bookRules = 64
 
+-- bytes of a label, and of the labels of a book's rules
+abbrev pub labelBytes : ℕ
+labelBytes = 32
+
+abbrev pub labelsRoom : ℕ
+labelsRoom = 2048
+
 -- depth of a formula, the root at depth 1
 abbrev pub deepest : ℕ
 deepest = 64

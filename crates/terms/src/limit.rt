@@ -9,6 +9,11 @@ pub const RULE_NODES: usize = 256;
 // Rules of a book.
 pub const BOOK_RULES: usize = 64;
 
+// Bytes of a label, and of the labels of a book's rules.
+pub const LABEL_BYTES: usize = 32;
+
+pub const LABELS_ROOM: usize = 2048;
+
 // Depth of a formula, the root at depth 1.
 pub const DEEPEST: usize = 64;
 

@@ -19,6 +19,7 @@ use stepping::fresh::Outcome;
 use stepping::fresh::fresh;
 use terms::limit::BOOK_NODES;
 use terms::limit::BOOK_RULES;
+use terms::limit::LABELS_ROOM;
 use terms::limit::NODE_CELLS;
 use terms::limit::OWED_ROOM;
 use terms::limit::RULE_NODES;
@@ -326,7 +327,7 @@ fn run_rule(text: &[u8], steps_at: usize, ops: &[u8], nums: &[u64], first: usize
 
 // A book of one rule.
 fn run_book(text: &[u8]) {
-    let mut labels = [0u8; 2048];
+    let mut labels = [0u8; LABELS_ROOM];
     let mut lens = [0usize; BOOK_RULES];
     let mut kinds = [0u8; BOOK_RULES];
     let mut firsts = [0usize; BOOK_RULES];

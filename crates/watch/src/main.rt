@@ -14,6 +14,7 @@ use reader::read::Answer;
 use split::parts::Liveness;
 use terms::limit::BOOK_NODES;
 use terms::limit::BOOK_RULES;
+use terms::limit::LABELS_ROOM;
 use terms::limit::OWED_ROOM;
 use terms::limit::SKELETON_ROOM;
 
@@ -98,7 +99,7 @@ fn show_splits(
 }
 
 fn watch_book(text: &[u8]) {
-    let mut labels = [0u8; 2048];
+    let mut labels = [0u8; LABELS_ROOM];
     let mut lens = [0usize; BOOK_RULES];
     let mut kinds = [0u8; BOOK_RULES];
     let mut firsts = [0usize; BOOK_RULES];
