@@ -1,3 +1,4 @@
 -- Laws of a monitor struct's calls.
 pub mod Answering
+pub mod ByValue
 pub mod Lent
