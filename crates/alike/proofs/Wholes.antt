@@ -20,7 +20,7 @@ use Rattle.formula.proofs.Rules.{rule-inv}
 use Rattle.monitor.specs.declared.node.Row.{Row}
 use Rattle.monitor.specs.Mon.{Check, Mon}
 use Rattle.monitor.specs.Table.{Never, Join, Cell, cellOf, cellBy, cells, rowOf, fromTree}
-use Rattle.monitor.proofs.Holds.{HoldsTree, held-inv}
+use Rattle.monitor.proofs.HeldTree.{HoldsTree, held-inv}
 use Rattle.alike.specs.declared.Part.{Part}
 use Rattle.alike.specs.Alike.{alikeMon, partOf, likened, likenessCall, alikeSome}
 use Rattle.alike.specs.Rows.{alikeCell, alikeCells, Shows, IsShown, SameRow, IsCompiled}

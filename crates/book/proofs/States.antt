@@ -24,7 +24,7 @@ use Rattle.line.specs.declared.line.Line as code-line
 use Rattle.line.specs.declared.line.Line.the-variants as lines
 use Rattle.line.proofs.Lines.{sort-held}
 use Rattle.book.specs.Book.{Book, empty, isNil, whole, headOf, lastOf, bump, spend, Fault, numberOf, word, place, field, limit, stands, within, firstFault, fault, add, addLine}
-use Rattle.book.specs.Checked.{dueOf, depths, Small, DueIs, HoldsBook, Inside, NodeRoom, Room, Stands, Within, Addable, Adds, Agrees, TakesLine}
+use Rattle.book.specs.Checked.{dueOf, depths, Small, DueIs, HoldsBook, Inside, NodeRoom, Room, MayStand, Within, Addable, Adds, Agrees, TakesLine}
 use Rattle.book.specs.declared.due.Due.{Due}
 use Rattle.book.specs.declared.state.State.{State}
 use Rattle.book.specs.declared.state.Taken.{Taken}
@@ -116,7 +116,7 @@ inside-is (suc d) = lt-ltb 0 (suc d) (omega arith) ∙ ap not (sym (ne-eqb (suc 
 
 -- ---- the tests by a line's sort
 module _ (s : State) (o : Sort) where
-  pub late-rule : o ≡ sort.Rule → s .stepping ≡ true → Stands s o false
+  pub late-rule : o ≡ sort.Rule → s .stepping ≡ true → MayStand s o false
   unfolding stands
   late-rule e t = record {
     is = λ b h. rw (e, steps-come b s h t) (and-false (whole b));
@@ -127,7 +127,7 @@ module _ (s : State) (o : Sort) where
       and-false true = refl
       and-false false = refl
 
-  pub rule-stands : o ≡ sort.Rule → s .stepping ≡ false → Stands s o (eqb (s .depth) 0)
+  pub rule-stands : o ≡ sort.Rule → s .stepping ≡ false → MayStand s o (eqb (s .depth) 0)
   unfolding stands
   rule-stands e t = record {
     is = λ b h. whole-is b s h ∙ rw (e, no-steps b s h t) (and-true (whole b));
@@ -138,14 +138,14 @@ module _ (s : State) (o : Sort) where
       and-true true = refl
       and-true false = refl
 
-  pub node-stands : o ≡ sort.Node → Stands s o (ltb 0 (s .depth))
+  pub node-stands : o ≡ sort.Node → MayStand s o (ltb 0 (s .depth))
   unfolding stands
   node-stands e = record {
     is = λ b h. inside-is (s .depth) ∙ rw e (ap not (whole-is b s h));
     inside = λ z. rw e (ltb-true 0 (s .depth) z);
   }
 
-  pub step-stands : o ≡ sort.Step → Stands s o (eqb (s .depth) 0)
+  pub step-stands : o ≡ sort.Step → MayStand s o (eqb (s .depth) 0)
   unfolding stands
   step-stands e = record { is = λ b h. rw e (whole-is b s h); inside = λ _. rw e tt }
 
@@ -259,7 +259,7 @@ module _ (s : State) (l : code-line.Line) (n : ℕ) where
   unfolding means fault firstFault
   line-bad e = faulty word 5 refl (λ t b h. rw e refl)
 
-  module _ (o : Sort) (f : Flaw) (r : Bool) (e : l ≡ lines.Wrong o f) (p : Stands s o r) where
+  module _ (o : Sort) (f : Flaw) (r : Bool) (e : l ≡ lines.Wrong o f) (p : MayStand s o r) where
     pub wrong-place : r ≡ false → TakesLine s l n (Faulty 6)
     unfolding means fault firstFault
     wrong-place q = faulty place 6 refl (λ t b h. rw (e, ← p .is b h, q) refl)
@@ -268,7 +268,7 @@ module _ (s : State) (l : code-line.Line) (n : ℕ) where
     unfolding means fault firstFault
     wrong-field k q j = faulty (field f) k j (λ t b h. rw (e, ← p .is b h, q) refl)
 
-  module _ (c : code.Content) (o : Sort) (r : Bool) (e : l ≡ lines.Right c) (i : o ≡ sortIn c) (p : Stands s o r) where
+  module _ (c : code.Content) (o : Sort) (r : Bool) (e : l ≡ lines.Right c) (i : o ≡ sortIn c) (p : MayStand s o r) where
     sort-is : (t : List ℕ) → sortOf (held t c) ≡ o
     sort-is t = sort-held t c ∙ sym i
 

@@ -79,7 +79,7 @@ Room s sort.Rule = s .rules < bookRules
 Room s sort.Node = NodeRoom s
 Room s sort.Step = Unit
 
-pub record Stands (s : State) (o : Sort) (r : Bool) : Type 0 where
+pub record MayStand (s : State) (o : Sort) (r : Bool) : Type 0 where
   pub is : (b : Book) → HoldsBook b s → r ≡ stands b o
   pub inside : r ≡ true → Inside s o
 

@@ -11,7 +11,7 @@ use terms::limit::DEEPEST;
 use terms::limit::RULE_NODES;
 ghost use Prim.Native.Nat.{_+_, _<_, _^_};
 ghost use Rattle.book.specs.Book.{empty};
-ghost use Rattle.book.specs.Checked.{Small, HoldsBook, Stands, Within, Addable, Adds, TakesLine};
+ghost use Rattle.book.specs.Checked.{Small, HoldsBook, MayStand, Within, Addable, Adds, TakesLine};
 
 // Document 01's numbers of the faults that are no field's.
 const WORD: u8 = 5;
@@ -52,7 +52,7 @@ pub fn start() -> State
 
 // Whether a line of the sort may stand behind the lines read.
 fn stands(s: State, sort: Sort) -> bool
-    ensures { λ r. ⌜ Stands s sort r ⌝ }
+    ensures { λ r. ⌜ MayStand s sort r ⌝ }
 {
     match sort {
         Sort::Rule => {

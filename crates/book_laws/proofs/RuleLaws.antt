@@ -20,7 +20,7 @@ use Rattle.line.specs.Line.{Content, rule, step, Line, right, parse}
 use Rattle.line.specs.Line as spec
 use Rattle.line.proofs.Sane.{Sane, NodeSane}
 use Rattle.book.specs.Book.{Book, empty, isNil, whole, headOf, lastOf, bump, spend, fault, add, addLine, Outcome, accepted, refused, readOn, read}
-use Rattle.reader.specs.Tables.{BookTables, over, written, roomy, readInto}
+use Rattle.reader.specs.BookTables.{BookTables, over, written, roomy, readInto}
 use Rattle.reader.proofs.Sounds.{Passed, PassedLine, passed, sane, nodes-left, node-inside, Sound, sound-empty, sound-add}
 use Rattle.reader.proofs.Runs.{accepted-lines, accepted-inj, unless-none}
 use Rattle.book_laws.proofs.Formulas.{Formulated, Opens, opens-first, opens-done, opens-node}

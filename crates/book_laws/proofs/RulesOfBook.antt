@@ -8,7 +8,7 @@ use lib.ListN.{length, getD}
 use Rattle.formula.specs.Formula.{Formula}
 use Rattle.formula.specs.Table.{ruleOf}
 use Rattle.book.specs.Book.{Book, accepted}
-use Rattle.reader.specs.Tables.{BookTables, written, readInto}
+use Rattle.reader.specs.BookTables.{BookTables, written, readInto}
 use Rattle.reader.specs.Answer.{Reads}
 use Rattle.reader.specs.declared.read.Answer.the-variants.{Read}
 use Rattle.reader.proofs.Answers.{read-inv}

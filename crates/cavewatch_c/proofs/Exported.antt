@@ -8,7 +8,7 @@ use native.Mathlib.Nat.{add-mul-mod-self-left, mod-eq-of-lt, add-mul-div-left, d
 use lib.Seq.{sets}
 use Rattle.result.specs.Result.{Result, given}
 use Rattle.book.specs.Book.{BookResult, bookResult, refused}
-use Rattle.reader.specs.Tables.{BookTables, readInto}
+use Rattle.reader.specs.BookTables.{BookTables, readInto}
 use Rattle.reader.specs.Answer as Reading
 use Rattle.reader.specs.Answer.{Reads}
 use Rattle.reader.specs.Steps as Steps

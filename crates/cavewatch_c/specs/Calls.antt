@@ -4,7 +4,7 @@ use mathlib.Core.List.{List}
 use Prim.Native.Nat.{ℕ}
 use Rattle.result.specs.Result.{given}
 use Rattle.book.specs.Book.{bookResult}
-use Rattle.reader.specs.Tables.{BookTables, readInto, after}
+use Rattle.reader.specs.BookTables.{BookTables, readInto, after}
 use Rattle.reader.specs.Steps.{nextStep}
 use Rattle.compiler.specs.Compiled.{compileCall}
 use Rattle.node_step.specs.Memory.{Memory}

@@ -7,7 +7,7 @@ use listing::whole::list_book;
 use reader::read::read_book;
 use reader::steps::next_step;
 ghost use Rattle.cavewatch_c.specs.Calls.{ReadBook, NextStep, ListBook};
-ghost use Rattle.reader.specs.Tables.{columns};
+ghost use Rattle.reader.specs.BookTables.{columns};
 
 // Reads a book into lent tables.
 #[no_mangle]

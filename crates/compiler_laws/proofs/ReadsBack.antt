@@ -39,7 +39,7 @@ use Rattle.monitor.specs.Table.{exprFrom, rangeFrom, formAt, rowOf, subAt, pure
 use Rattle.monitor.specs.Compile.{when, consequent, faults, implication, node, ruleFaults, ruleNode}
 use Rattle.monitor.proofs.Rows.{expr-zero, expr-some, row-range, row-delayed, row-owed, row-and, row-or}
 use Rattle.monitor.proofs.Parts.{no-part}
-use Rattle.monitor.proofs.Holds.{held}
+use Rattle.monitor.proofs.HeldTree.{held}
 use Rattle.result.specs.Result.{given, refused}
 use Rattle.compiler.specs.Compiled.{firstOr, compileFormula, orShort, compileCall}
 use Rattle.compiler.proofs.Joining.{count-size, rows-length}

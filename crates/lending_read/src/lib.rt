@@ -6,7 +6,7 @@ use table_read::read_table;
 use terms::limit::BOOK_NODES;
 ghost use Rattle.node_table.specs.Node.{opsOf, numsOf};
 ghost use Rattle.reader.specs.Answer.{Reads};
-ghost use Rattle.reader.specs.Tables.{columns};
+ghost use Rattle.reader.specs.BookTables.{columns};
 
 // The answer, and the table as reading leaves it.
 pub struct ReadOver {

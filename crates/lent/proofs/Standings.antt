@@ -30,7 +30,7 @@ use Rattle.monitor.specs.declared.node.Row.the-variants.{Node, Unknown}
 use Rattle.monitor.specs.Mon.{Signal, at, Check, range-check, delayed-check, obligation, Mon, check, And, Or, count, exprOf, nodeOf}
 use Rattle.monitor.specs.Table.{rowOf, signalOf, Never, Join, join-and, join-or, Cell, checked, cellOf, cellBy, cells, fromTree, compiledOf}
 use Rattle.monitor.proofs.Signals.{signal-inv}
-use Rattle.monitor.proofs.Holds.{held-inv}
+use Rattle.monitor.proofs.HeldTree.{held-inv}
 use Rattle.node_step.specs.Check.{Standing, Grounded, GroundedCheck}
 use Rattle.node_step.specs.Memory.{Memory, get, Inside}
 use Rattle.node_step.proofs.Entries.{inside-less}

@@ -7,7 +7,7 @@ use native.Mathlib.Omega.{arith}
 use native.Mathlib.Numerals.{add-one}
 use lib.ListN.{length, getD, take, drop}
 use lib.ListN.{length-drop}
-use Rattle.reader.specs.Tables.{BookTables, columns}
+use Rattle.reader.specs.BookTables.{BookTables, columns}
 use Rattle.text.specs.Tape.{Tape, Wrote}
 use Rattle.text.proofs.Tapes.{as-text, nothing, then}
 use Rattle.listing_line.specs.declared.rule.Compiling.{Compiling}
@@ -17,7 +17,7 @@ use Rattle.listing_rules.specs.Made.{FilledRules}
 use Rattle.listing_rules.specs.Answers.{Placeable, Places, Tellable, ToldRule}
 use Rattle.listing_head.specs.Head.{upto, sectionText, ruleText, rulesText}
 use Rattle.listing_section.specs.Section as section
-use Rattle.listing.specs.Ready.{Lent, lists, Labelled, HoldsRules, BookReady, Readied, RuleReady, RuleListed, RulesListed}
+use Rattle.listing.specs.LentLists.{Lent, lists, Labelled, HoldsRules, BookReady, Readied, RuleReady, RuleListed, RulesListed}
 use Rattle.listing.specs.Whole.{KnownBook, HeadListed}
 
 module _ (ops nums labels lens kinds firsts counts nodes nfirsts ncounts refusals starts bits : List ℕ) where

@@ -8,7 +8,7 @@ use borrow.Author.Tests.{le-leb, lt-leb}
 use lib.Dec.{leb}
 use lib.ListN.{length, getD, take, drop, length-append, length-drop, take-append-drop}
 use Rattle.book.specs.Book.{Book}
-use Rattle.reader.specs.Tables.{BookTables, columns}
+use Rattle.reader.specs.BookTables.{BookTables, columns}
 use Rattle.reader.specs.Answer.{Reads, Roomy}
 use Rattle.reader.specs.declared.read.Answer.{Answer}
 use Rattle.reader.specs.declared.read.Answer.the-variants.{Read as Taken, Refused as NotTaken}
@@ -25,12 +25,12 @@ use Rattle.listing_size.specs.Handed.{Handed}
 use Rattle.listing_size.proofs.Handing.{handed, refused-listing}
 use Rattle.listing_steps.specs.Holding.{Rows}
 use Rattle.listing_steps.specs.Stepped.{StepsDue, StepsReported}
-use Rattle.listing_steps.proofs.Tables.{tabled-rows}
+use Rattle.listing_steps.proofs.Start.{tabled-rows}
 use Rattle.result.specs.Result.{given}
 use Rattle.listing.specs.declared.whole.Listed.{Listed}
 use Rattle.listing.specs.declared.whole.Listed.the-variants.{Text, Refused}
 use Rattle.listing.specs.Whole.{KnownBook, HeadListed, Compiled, TailListed}
-use Rattle.listing.specs.Ready.{HoldsRules}
+use Rattle.listing.specs.LentLists.{HoldsRules}
 use Rattle.listing.specs.Lists.{Call, orShort, listCall, Answers, Within}
 
 -- ---- the entry point

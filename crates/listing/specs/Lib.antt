@@ -1,4 +1,4 @@
 -- Listing a book: what the call answers, and what its parts ask and leave.
 pub mod Lists
-pub mod Ready
+pub mod LentLists
 pub mod Whole

@@ -4,14 +4,14 @@ use Prim.Native.Nat.{ℕ, _≤_}
 use lib.ListN.{length}
 use Rattle.terms.specs.Limits.{bookBytes, bookRules}
 use Rattle.reader.specs.Steps.{stepsFrom}
-use Rattle.reader.specs.Tables.{BookTables}
+use Rattle.reader.specs.BookTables.{BookTables}
 use Rattle.text.specs.Tape.{Tape, Wrote}
 use Rattle.listing_rules.specs.Rules.{Rule}
 use Rattle.listing_rules.specs.Tabled.{Tabled}
 use Rattle.listing_head.specs.Head.{rulesText}
 use Rattle.listing_reports.specs.Reports.{bookReports, kindsOf}
 use Rattle.listing_reports.specs.Tail.{tailText}
-use Rattle.listing.specs.Ready.{HoldsRules}
+use Rattle.listing.specs.LentLists.{HoldsRules}
 
 -- the rule list and the formula table hold n rules
 pub record KnownBook (t : BookTables) (n : ℕ) : Type 0 where

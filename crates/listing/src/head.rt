@@ -8,9 +8,9 @@ use listing_rules::place::place_rules;
 use listing_section::section::put_section;
 use terms::limit::BOOK_RULES;
 use terms::limit::LABEL_BYTES;
-ghost use Rattle.reader.specs.Tables.{columns};
+ghost use Rattle.reader.specs.BookTables.{columns};
 ghost use Rattle.text.specs.Tape.{tape};
-ghost use Rattle.listing.specs.Ready.{lists, Readied, RuleReady, RuleListed, RulesListed};
+ghost use Rattle.listing.specs.LentLists.{lists, Readied, RuleReady, RuleListed, RulesListed};
 ghost use Rattle.listing.specs.Whole.{KnownBook, Roomed, HeadListed};
 
 // The lines of rule r, with what compiling gave.

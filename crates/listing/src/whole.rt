@@ -10,7 +10,7 @@ use terms::limit::LABELS_ROOM;
 use terms::limit::LISTING_BYTES;
 ghost use Rattle.text.specs.Tape.{tape, Wrote};
 ghost use Rattle.listing_text.specs.Listing.{listing};
-ghost use Rattle.reader.specs.Tables.{columns};
+ghost use Rattle.reader.specs.BookTables.{columns};
 ghost use Rattle.listing_size.specs.Handed.{Handed};
 ghost use Rattle.listing.specs.Lists.{Answers, Within, listCall};
 

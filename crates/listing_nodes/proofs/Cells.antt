@@ -30,7 +30,7 @@ use Rattle.monitor.specs.declared.node.Row.the-variants.{Node, Unknown}
 use Rattle.monitor.specs.Mon.{Signal, always-true, at, Check, range-check, delayed-check, obligation, Mon, check, And, Or, count, exprOf, nodeOf}
 use Rattle.monitor.specs.Table.{rowOf, signalOf, Never, Join, join-and, join-or, Cell, checked, cellOf, cellBy, cells, fromTree, compiledOf}
 use Rattle.monitor.proofs.Signals.{signal-inv}
-use Rattle.monitor.proofs.Holds.{HoldsTree, held-inv}
+use Rattle.monitor.proofs.HeldTree.{HoldsTree, held-inv}
 use Rattle.number.specs.Digits.{decimal}
 use Rattle.text.specs.Tape.{Tape, Wrote, joined}
 use Rattle.text.proofs.Tapes.{as-text, append-nil, joined-append, nothing, then}

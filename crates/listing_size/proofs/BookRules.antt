@@ -14,7 +14,7 @@ use Rattle.formula.specs.Tree.{size}
 use Rattle.formula.specs.Table.{ruleOf}
 use Rattle.formula.proofs.Rules.{rule-of, rule-inv}
 use Rattle.book.specs.Book.{Book, accepted, read}
-use Rattle.reader.specs.Tables.{BookTables, cells, written, readInto}
+use Rattle.reader.specs.BookTables.{BookTables, cells, written, readInto}
 use Rattle.reader.specs.Answer.{Roomy}
 use Rattle.reader.proofs.Sounds.{Sound, Short}
 use Rattle.reader.proofs.Columns.{over-long, cells-long}

@@ -7,7 +7,7 @@ use native.Mathlib.Omega.{arith}
 use lib.ListN.{length, length-map}
 use Rattle.terms.specs.Choice.{pick}
 use Rattle.book.specs.Book.{Book, accepted, refused, read}
-use Rattle.reader.specs.Tables.{BookTables, written, readInto}
+use Rattle.reader.specs.BookTables.{BookTables, written, readInto}
 use Rattle.reader.specs.Answer.{Roomy, Reads}
 use Rattle.reader.specs.declared.read.Answer.the-variants.{Read, Refused}
 use Rattle.reader.proofs.Answers.{has-room, read-inv, refused-inv}

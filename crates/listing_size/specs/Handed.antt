@@ -6,7 +6,7 @@ use Prim.Native.Nat.{ℕ, _+_, _*_, _≤_, _<_}
 use lib.ListN.{length, getD, take, drop}
 use Rattle.terms.specs.Limits.{bookRules, labelBytes, labelsRoom}
 use Rattle.book.specs.Book.{Book, accepted, read}
-use Rattle.reader.specs.Tables.{BookTables}
+use Rattle.reader.specs.BookTables.{BookTables}
 use Rattle.reader.specs.Steps.{stepsFrom}
 use Rattle.listing_rules.specs.Tabled.{Held}
 use Rattle.listing_text.specs.Listing.{ruleAt, rulesListing, listing}

@@ -1,7 +1,7 @@
 -- The laws of stepping a book's rules.
-pub mod Holds
+pub mod HeldState
 pub mod Turns
 pub mod Lines
 pub mod Steps
 pub mod Runs
-pub mod Tables
+pub mod Start

@@ -30,7 +30,7 @@ use Rattle.listing_reports.specs.Tail.{reportLine, reportLines}
 use Rattle.listing_report.specs.Written.{ReportWrote}
 use Rattle.listing_steps.specs.Holding.{Rows, HoldsState, Holding}
 use Rattle.listing_steps.specs.Stepped.{lineOf, stepped, reportIf, RuleStepped, Due, OneStepped}
-use Rattle.listing_steps.proofs.Holds.{holds-same, holds-step, holds-culprit, holds-newly, shaped-culprit}
+use Rattle.listing_steps.proofs.HeldState.{holds-same, holds-step, holds-culprit, holds-newly, shaped-culprit}
 
 -- ---- the states while a step line is in hand
 module _ (R : ℕ → Rule) (st : States R) (x : StepLine) (r q : ℕ) where

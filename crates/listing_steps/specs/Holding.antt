@@ -1,6 +1,6 @@
 -- The rules of a book in lent tables and one memory: row k of the node table and entry k of the memory belong together.
---     Rows       the tables hold the compiled rules, as stepping asks for them (`tabled-rows`, proofs/Tables.antt, from `Tabled`)
---     Holding    the memory holds a state of each rule (`fresh-held`, proofs/Tables.antt: a cleared memory holds the fresh states)
+--     Rows       the tables hold the compiled rules, as stepping asks for them (`tabled-rows`, proofs/Start.antt, from `Tabled`)
+--     Holding    the memory holds a state of each rule (`fresh-held`, proofs/Start.antt: a cleared memory holds the fresh states)
 use mathlib.Core.Bool.{true}
 use mathlib.Core.List.{List}
 use mathlib.Core.Path.{_≡_}

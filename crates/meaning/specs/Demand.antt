@@ -56,19 +56,19 @@ module _ {Memory Event : Type 0} (k : Machine Memory Event) where
     pub below : Below (k .asks e)
 
   -- the memory reads as a state in which every mark and culprit after n steps of the record is right
-  pub record Keeps (m : Mon) (Reads : Memory → State m → Type 0) (rec : Record) (n : ℕ) (mem : Memory) : Type 0 where
+  pub record Keeps (m : Mon) (Carries : Memory → State m → Type 0) (rec : Record) (n : ℕ) (mem : Memory) : Type 0 where
     pub state : State m
-    pub reads : Reads mem state
+    pub reads : Carries mem state
     pub obligations : EachObligation (Sound rec n) m state
     pub nodes : EachNode (NodeSound rec n) m state
 
-  pub record Tells (m : Mon) (Reads : Memory → State m → Type 0) (rec : Record) (mem : Memory) (es : List Event) : Type 0 where
+  pub record Tells (m : Mon) (Carries : Memory → State m → Type 0) (rec : Record) (mem : Memory) (es : List Event) : Type 0 where
     -- an event reports s exactly when its call at s is accepted and the alarm holds at s and at no earlier step
     pub reports : (before : List Event) (e : Event) (rest : List Event) → es ≡ before ++ e ∷ rest →
         (s : ℕ) → (k .reports e (runAll mem before) ≡ some s) ↔ (AcceptedAt s (k .calls e (runAll mem before)) × First (Alarm m rec) s)
     -- after the list, and after each first part of it
     pub after : (before rest : List Event) → es ≡ before ++ rest →
-        Keeps m Reads rec (stepCount (callsOf mem before)) (runAll mem before)
+        Keeps m Carries rec (stepCount (callsOf mem before)) (runAll mem before)
 
   -- a plain rule over an endless record
   pub record PlainTells (f : Formula) (m : Mon) (rec : Record) (mem : Memory) : Type 0 where
@@ -80,9 +80,9 @@ module _ {Memory Event : Type 0} (k : Machine Memory Event) where
         (k .calls e (runAll mem es) ≡ k .asks e) × (k .reports e (runAll mem es) ≡ some s)
 
   -- the rule f, whose nodes m are, from the memory of a fresh monitor on
-  pub record Demand (f : Formula) (m : Mon) (Reads : Memory → State m → Type 0) (mem : Memory) : Type 0 where
+  pub record Demand (f : Formula) (m : Mon) (Carries : Memory → State m → Type 0) (mem : Memory) : Type 0 where
     -- any list of events, refused ones anywhere and over any tables, the accepted ones over the rule's own table at 0, 1, 2 and on
-    pub tells : (es : List Event) → AllFair m mem es → InOrder 0 (callsOf mem es) → Tells m Reads (recordOf (callsOf mem es)) mem es
+    pub tells : (es : List Event) → AllFair m mem es → InOrder 0 (callsOf mem es) → Tells m Carries (recordOf (callsOf mem es)) mem es
     -- at every place of a list, an event that is lent enough is accepted, all that it asks for
     pub accepts : (es : List Event) → AllFair m mem es → (e : Event) → Lent m e → k .calls e (runAll mem es) ≡ k .asks e
     -- there is such an event for every step below 2^63 and all truths

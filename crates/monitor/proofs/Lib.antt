@@ -3,5 +3,5 @@ pub mod Ranges
 pub mod Rows
 pub mod Parts
 pub mod Signals
-pub mod Tables
-pub mod Holds
+pub mod TableWalk
+pub mod HeldTree

@@ -19,8 +19,8 @@ use Rattle.book.specs.Book.{Book, empty, whole, fault, addLine, unless, readOn,
 use Rattle.book.specs.Checked as Checking
 use Rattle.book.specs.declared.check.Checked as checked
 use Rattle.book.specs.declared.check.Checked.the-variants as check
-use Rattle.reader.specs.Tables.{BookTables, columns, written, roomy, readInto, after}
-use Rattle.reader.specs.Filled.{Fillable, FilledTables}
+use Rattle.reader.specs.BookTables.{BookTables, columns, written, roomy, readInto, after}
+use Rattle.reader.specs.FillingPass.{Fillable, FilledTables}
 use Rattle.reader.specs.Answer.{Roomy, Reads, resultOf}
 use Rattle.reader.proofs.Runs.{roomy-is}
 use Rattle.reader.specs.declared.read.Answer.{Answer}

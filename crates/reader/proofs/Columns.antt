@@ -8,8 +8,8 @@ use lib.ListN.{length, getD, take, drop, set, length-append, length-drop, take-a
 use lib.Seq.{drop-cons, set-append-seam, set-append-left, drop-append-le, length-take-le, take-append-add, drop-append-add}
 use Rattle.book.specs.Book.{lastOf, bump}
 use Rattle.book.proofs.States.{bump-length}
-use Rattle.reader.specs.Tables.{over, cells}
-use Rattle.reader.specs.Filled.{placed}
+use Rattle.reader.specs.BookTables.{over, cells}
+use Rattle.reader.specs.FillingPass.{placed}
 use Rattle.reader.proofs.Sounds.{Short}
 
 pub over-long : (xs l : List ℕ) → length xs ≤ length l → length (over xs l) ≡ length l

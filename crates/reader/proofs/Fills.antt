@@ -20,8 +20,8 @@ use Rattle.line.specs.declared.line.Content.the-variants as contents
 use Rattle.line.specs.declared.line.Line as code
 use Rattle.line.specs.declared.line.Line.the-variants as lines
 use Rattle.line.proofs.line.Line as line-type
-use Rattle.reader.specs.Tables.{BookTables, columns}
-use Rattle.reader.specs.Filled.{placed, RuleRoom, RulePut, NodeRoom, NodePut, LineRoom, LinePut, RoomFor, LeftBy, Kept, RuleDone, NodeDone}
+use Rattle.reader.specs.BookTables.{BookTables, columns}
+use Rattle.reader.specs.FillingPass.{placed, RuleRoom, RulePut, NodeRoom, NodePut, LineRoom, LinePut, RoomFor, LeftBy, Kept, RuleDone, NodeDone}
 use Rattle.reader.specs.declared.fill.Tally.{Tally}
 
 -- ---- a copy

@@ -15,9 +15,9 @@ use Rattle.line.specs.Text.{lines, parts, Found}
 use Rattle.line.specs.Line.{Content, rule, node, step, Line, bad, wrong, right, parse}
 use Rattle.book.specs.Book.{Book, empty, isNil, lastOf, stands, Fault, fault, add, addLine, accepted, unless, readOn, read}
 use Rattle.book.proofs.Checks.{read-line}
-use Rattle.reader.specs.Tables.{BookTables, over, cells, written}
+use Rattle.reader.specs.BookTables.{BookTables, over, cells, written}
 use Rattle.reader.specs.Answer.{Roomy}
-use Rattle.reader.specs.Filled.{LineRoom, LinePut, RoomFor, LeftBy, Fillable, FilledTables}
+use Rattle.reader.specs.FillingPass.{LineRoom, LinePut, RoomFor, LeftBy, Fillable, FilledTables}
 use Rattle.reader.specs.declared.fill.Tally.{Tally}
 use Rattle.reader.proofs.Sounds.{Passed, PassedLine, passed, sane, Sound, sound-empty, sound-add}
 use Rattle.reader.proofs.Runs.{roomy-is, Tallied, tables-eq, Long, written-long, room-by, line-after, accepted-lines, accepted-ended, accepted-inj, accepted-short, unless-none}

@@ -14,9 +14,9 @@ use Rattle.line.specs.Line.{Content, rule, node, step, parse}
 use Rattle.line.proofs.Sane.{Sane}
 use Rattle.book.specs.Book.{Book, empty, lastOf, Fault, add, Outcome, accepted, refused, unless, readOn, ended, read}
 use Rattle.book.proofs.States.{last-snoc, last-bump}
-use Rattle.reader.specs.Tables.{BookTables, columns, over, written, roomy}
+use Rattle.reader.specs.BookTables.{BookTables, columns, over, written, roomy}
 use Rattle.reader.specs.Answer.{Roomy}
-use Rattle.reader.specs.Filled.{RoomFor, LeftBy, Kept, RuleDone, NodeDone}
+use Rattle.reader.specs.FillingPass.{RoomFor, LeftBy, Kept, RuleDone, NodeDone}
 use Rattle.reader.specs.declared.fill.Tally.{Tally}
 use Rattle.reader.proofs.Sounds.{both, Passed, label-short, rules-left, nodes-left, node-inside, Sound}
 use Rattle.reader.proofs.Columns.{over-long, over-snoc, over-bump, cells-snoc, cells-long, map-snoc}

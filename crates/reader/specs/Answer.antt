@@ -6,7 +6,7 @@ use Prim.Native.Nat.{ℕ, _≤_}
 use lib.ListN.{length}
 use Rattle.terms.specs.Limits.{bookNodes, bookRules, labelsRoom}
 use Rattle.book.specs.Book.{BookResult, contents, refusal, bookResult}
-use Rattle.reader.specs.Tables.{BookTables, readInto, after}
+use Rattle.reader.specs.BookTables.{BookTables, readInto, after}
 use Rattle.reader.specs.declared.read.Answer.{Answer}
 use Rattle.reader.specs.declared.read.Answer.the-variants.{Read, Refused}
 

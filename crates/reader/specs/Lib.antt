@@ -1,5 +1,5 @@
 -- What reading a book leaves in the lent tables, what it answers, and its steps.
-pub mod Tables
-pub mod Filled
+pub mod BookTables
+pub mod FillingPass
 pub mod Answer
 pub mod Steps

@@ -9,8 +9,8 @@ use terms::limit::LABEL_BYTES;
 ghost use mathlib.Core.Path.{_≡_};
 ghost use Prim.Native.Nat.{_+_, _*_, _≤_, _<_};
 ghost use lib.ListN.{length};
-ghost use Rattle.reader.specs.Tables.{columns};
-ghost use Rattle.reader.specs.Filled.{placed, RuleRoom, RulePut, NodeRoom, NodePut, LineRoom, LinePut, Fillable, FilledTables};
+ghost use Rattle.reader.specs.BookTables.{columns};
+ghost use Rattle.reader.specs.FillingPass.{placed, RuleRoom, RulePut, NodeRoom, NodePut, LineRoom, LinePut, Fillable, FilledTables};
 
 // The rules begun, the nodes written, and the nodes of the rule in hand.
 pub struct Tally {

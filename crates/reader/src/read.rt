@@ -5,7 +5,7 @@ use book::check::check;
 use terms::limit::BOOK_NODES;
 use terms::limit::BOOK_RULES;
 use terms::limit::LABELS_ROOM;
-ghost use Rattle.reader.specs.Tables.{columns};
+ghost use Rattle.reader.specs.BookTables.{columns};
 ghost use Rattle.reader.specs.Answer.{Roomy, Reads};
 
 // What the book holds and where its step lines begin, or document 01's number and line.

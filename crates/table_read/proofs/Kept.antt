@@ -7,7 +7,7 @@ use Prim.Native.Nat.{ℕ, _<_}
 use native.Mathlib.Omega.{arith}
 use lib.ListN.{length, length-map}
 use Rattle.reader.specs.Answer.{Reads}
-use Rattle.reader.specs.Tables.{BookTables}
+use Rattle.reader.specs.BookTables.{BookTables}
 use Rattle.reader.specs.declared.read.Answer.the-variants.{Refused}
 use Rattle.reader.proofs.Answers.{refused-inv}
 use Rattle.node_table.specs.Node.{opsOf, numsOf}

@@ -11,7 +11,7 @@ use lib.Seq.{take-at}
 use Rattle.terms.specs.Choice.{pick}
 use Rattle.book.specs.Book.{Book, Outcome, accepted, refused, bookResult, read}
 use Rattle.reader.specs.Answer.{Reads, Roomy}
-use Rattle.reader.specs.Tables.{BookTables, over, written, roomy, readInto, after}
+use Rattle.reader.specs.BookTables.{BookTables, over, written, roomy, readInto, after}
 use Rattle.reader.specs.declared.read.Answer.{Answer}
 use Rattle.reader.specs.declared.read.Answer.the-variants.{Read, Refused}
 use Rattle.reader.proofs.Answers.{read-inv, refused-inv}

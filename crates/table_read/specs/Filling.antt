@@ -8,7 +8,7 @@ use Prim.Native.Nat.{ℕ, _≤_}
 use lib.ListN.{length}
 use Rattle.node_table.specs.Columns.{Inside, front}
 use Rattle.reader.specs.Answer.{Reads}
-use Rattle.reader.specs.Tables.{BookTables}
+use Rattle.reader.specs.BookTables.{BookTables}
 use Rattle.reader.specs.declared.read.Answer.{Answer}
 use Rattle.reader.specs.declared.read.Answer.the-variants.{Read, Refused}
 use Rattle.table_read.specs.declared.Filling.{Filling}

@@ -10,7 +10,7 @@ ghost use mathlib.Core.Path.{_≡_};
 ghost use Rattle.node_table.specs.Node.{opsOf, numsOf};
 ghost use Rattle.reader.specs.Answer.{Reads};
 ghost use Rattle.table_read.specs.Filling.{Fills, nodesOf, rulesIn};
-ghost use Rattle.reader.specs.Tables.{columns};
+ghost use Rattle.reader.specs.BookTables.{columns};
 
 // The answer, and the book's nodes in columns.
 pub struct Filling {

@@ -1,4 +1,4 @@
-use Rattle.listing_steps.proofs.Tables.{fresh-due, fresh-reported}
+use Rattle.listing_steps.proofs.Start.{fresh-due, fresh-reported}
 use borrow.Author.Needs.{needs}
 use Rattle.listing_steps.proofs.report_steps.Statement.{statement}
 use Rattle.listing_steps.proofs.report_steps.Tie as tie

@@ -1,6 +1,6 @@
 use native.Mathlib.Omega.{arith}
 use Rattle.stepping.proofs.Memories.{count-pos}
-use Rattle.listing_steps.proofs.Holds.{stepped-before, stepped-after}
+use Rattle.listing_steps.proofs.HeldState.{stepped-before, stepped-after}
 use borrow.Author.Needs.{needs}
 use Rattle.listing_steps.proofs.step_rule.Statement.{statement}
 use Rattle.listing_steps.proofs.step_rule.Tie as tie

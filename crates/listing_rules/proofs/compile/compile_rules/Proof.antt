@@ -1,4 +1,4 @@
-use Rattle.listing_rules.proofs.Tables.{Filling, filling-none, enterable, filling-more, filled}
+use Rattle.listing_rules.proofs.RuleLoop.{Filling, filling-none, enterable, filling-more, filled}
 use Prim.Native.Nat.{_-_}
 use borrow.Author.Needs.{needs}
 use Rattle.listing_rules.proofs.compile.compile_rules.Statement.{statement}

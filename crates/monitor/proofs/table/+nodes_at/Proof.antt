@@ -1,5 +1,5 @@
 use Rattle.formula.proofs.Walks.{walk-past, walk-flat, falls-past}
-use Rattle.monitor.proofs.Tables.{node-leaf, node-left, node-two, node-unknown, row-inside}
+use Rattle.monitor.proofs.TableWalk.{node-leaf, node-left, node-two, node-unknown, row-inside}
 use Prim.Native.Nat.{_-_}
 use borrow.Author.Needs.{needs}
 use Prim.Native.Nat.{ℕ, _<_}

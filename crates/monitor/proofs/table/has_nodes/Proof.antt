@@ -1,4 +1,4 @@
-use Rattle.monitor.proofs.Holds.{all-nodes, end-inside, many-nodes, no-nodes, other-end, past-nodes, past-nodes-from}
+use Rattle.monitor.proofs.HeldTree.{all-nodes, end-inside, many-nodes, no-nodes, other-end, past-nodes, past-nodes-from}
 use borrow.Author.Needs.{needs}
 use Rattle.monitor.proofs.table.has_nodes.Statement.{statement}
 use Rattle.monitor.proofs.table.has_nodes.Tie as tie

@@ -1,5 +1,5 @@
 use Rattle.formula.proofs.Rules.{is-a-rule}
-use Rattle.monitor.proofs.Holds.{no-formula}
+use Rattle.monitor.proofs.HeldTree.{no-formula}
 use borrow.Author.Needs.{needs}
 use Rattle.monitor.proofs.table.is_compiled.Statement.{statement}
 use Rattle.monitor.proofs.table.is_compiled.Tie as tie

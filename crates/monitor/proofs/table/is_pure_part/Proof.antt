@@ -1,4 +1,4 @@
-use Rattle.monitor.proofs.Tables.{before-rule, impure-part, past-rule, placed-part, pure-part}
+use Rattle.monitor.proofs.TableWalk.{before-rule, impure-part, past-rule, placed-part, pure-part}
 use borrow.Author.Needs.{needs}
 use Rattle.monitor.proofs.table.is_pure_part.Statement.{statement}
 use Rattle.monitor.proofs.table.is_pure_part.Tie as tie

@@ -1,4 +1,4 @@
-use Rattle.monitor.proofs.Tables.{at-signal, true-signal}
+use Rattle.monitor.proofs.TableWalk.{at-signal, true-signal}
 use borrow.Author.Needs.{needs}
 use Rattle.monitor.proofs.table.is_signal.Statement.{statement}
 use Rattle.monitor.proofs.table.is_signal.Tie as tie

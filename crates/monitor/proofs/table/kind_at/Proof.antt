@@ -1,4 +1,4 @@
-use Rattle.monitor.proofs.Tables.{row-no, row-yes}
+use Rattle.monitor.proofs.TableWalk.{row-no, row-yes}
 use borrow.Author.Needs.{needs}
 use Rattle.monitor.proofs.table.kind_at.Statement.{statement}
 use Rattle.monitor.proofs.table.kind_at.Tie as tie

@@ -1,4 +1,4 @@
-use Rattle.monitor.proofs.Tables.{and-joined, delayed-first, delayed-known, delayed-second, or-joined, owed-first, owed-known, owed-second, range-known, range-unknown}
+use Rattle.monitor.proofs.TableWalk.{and-joined, delayed-first, delayed-known, delayed-second, or-joined, owed-first, owed-known, owed-second, range-known, range-unknown}
 use borrow.Author.Needs.{needs}
 use Rattle.monitor.proofs.table.kind_of.Statement.{statement}
 use Rattle.monitor.proofs.table.kind_of.Tie as tie

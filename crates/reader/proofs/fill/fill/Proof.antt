@@ -1,5 +1,5 @@
 use Prim.Native.Nat.{_-_}
-use Rattle.reader.specs.Tables.{columns}
+use Rattle.reader.specs.BookTables.{columns}
 use Rattle.reader.proofs.Loops.{FillRun, fill-first, fill-past, fill-room, fill-at, fill-next, fill-end}
 use borrow.Author.Needs.{needs}
 use Rattle.reader.proofs.fill.fill.Statement.{statement}

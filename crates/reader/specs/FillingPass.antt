@@ -7,7 +7,7 @@ use lib.ListN.{length, take, drop, set}
 use Rattle.terms.specs.Limits.{bookNodes, bookRules, labelBytes, labelsRoom, ruleNodes}
 use Rattle.line.specs.Line.{Content, rule, node, step, right, parse}
 use Rattle.book.specs.Book.{Book, accepted, read}
-use Rattle.reader.specs.Tables.{BookTables, written, roomy}
+use Rattle.reader.specs.BookTables.{BookTables, written, roomy}
 use Rattle.reader.specs.declared.fill.Tally.{Tally}
 
 -- a list with another written into it from a place on

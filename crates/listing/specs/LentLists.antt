@@ -4,7 +4,7 @@ use mathlib.Core.Path.{_≡_}
 use Prim.Native.Nat.{ℕ, _+_, _*_, _≤_, _<_}
 use lib.ListN.{length, getD, take, drop}
 use Rattle.terms.specs.Limits.{bookRules, labelBytes, labelsRoom}
-use Rattle.reader.specs.Tables.{BookTables}
+use Rattle.reader.specs.BookTables.{BookTables}
 use Rattle.text.specs.Tape.{Tape, Wrote}
 use Rattle.listing_line.specs.declared.rule.Compiling.{Compiling}
 use Rattle.listing_rules.specs.Rules.{Rule, compilingOf}
