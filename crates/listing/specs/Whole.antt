@@ -2,7 +2,7 @@
 use mathlib.Core.List.{List}
 use Prim.Native.Nat.{ℕ, _≤_}
 use lib.ListN.{length}
-use Rattle.terms.specs.Limits.{bookBytes, bookRules}
+use Rattle.terms.specs.Limits.{bookBytes, bookCells, bookRules}
 use Rattle.reader.specs.Steps.{stepsFrom}
 use Rattle.reader.specs.BookTables.{BookTables}
 use Rattle.text.specs.Tape.{Tape, Wrote}
@@ -20,7 +20,7 @@ pub record KnownBook (t : BookTables) (n : ℕ) : Type 0 where
 
 -- room for the compiled rules
 pub record Roomed (nodes nfirsts ncounts refusals : List ℕ) : Type 0 where
-  pub in-nodes : 8960 ≤ length nodes
+  pub in-nodes : bookCells ≤ length nodes
   pub in-nfirsts : bookRules ≤ length nfirsts
   pub in-ncounts : bookRules ≤ length ncounts
   pub in-refusals : bookRules ≤ length refusals

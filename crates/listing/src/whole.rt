@@ -4,6 +4,7 @@ use crate::tail::put_tail;
 use listing_report::put_refused;
 use reader::read::Answer;
 use reader::read::read_book;
+use terms::limit::BOOK_CELLS;
 use terms::limit::BOOK_NODES;
 use terms::limit::BOOK_RULES;
 use terms::limit::LABELS_ROOM;
@@ -37,7 +38,7 @@ fn list_accepted(
     requires { ⌜ Handed (now text) (columns (now labels) (now lens) (now kinds) (now firsts) (now counts) (now ops) (now nums)) n from ⌝ }
     ensures { λ e. ⌜ Wrote (tape (now (out .entry)) 0) (listing (now (text .entry))) (tape (now (out .exit)) e) ⌝ }
 {
-    let mut nodes: [u64; 8960] = [0; 8960];
+    let mut nodes: [u64; BOOK_CELLS] = [0; BOOK_CELLS];
     let mut nfirsts: [usize; BOOK_RULES] = [0; BOOK_RULES];
     let mut ncounts: [usize; BOOK_RULES] = [0; BOOK_RULES];
     let mut refusals: [u64; BOOK_RULES] = [0; BOOK_RULES];

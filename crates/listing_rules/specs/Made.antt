@@ -8,7 +8,7 @@ use mathlib.Core.Path.{_≡_}
 use Prim.Native.Nat.{ℕ, _+_, _*_, _≤_, _<_}
 use lib.ListN.{length, getD, set}
 use lib.Seq.{sets}
-use Rattle.terms.specs.Limits.{bookNodes, bookRules}
+use Rattle.terms.specs.Limits.{bookCells, bookNodes, bookRules}
 use Rattle.result.specs.Result.{Result, given, refused}
 use Rattle.formula.specs.Table.{ruleOf, IsRule}
 use Rattle.monitor.specs.Mon.{Mon, count, rows}
@@ -56,7 +56,7 @@ pub record Enterable (ops nums firsts counts nodes nfirsts ncounts refusals : Li
   pub nums-long : length nums ≡ bookNodes
   pub rule : IsRule ops nums (getD firsts r 0) (getD counts r 0)
   pub room : at ≤ bookNodes
-  pub in-nodes : 8960 ≤ length nodes
+  pub in-nodes : bookCells ≤ length nodes
   pub in-firsts : r < length firsts
   pub in-counts : r < length counts
   pub in-nfirsts : r < length nfirsts
@@ -78,7 +78,7 @@ pub record Entering (ops nums : List ℕ) (first count r at at′ : ℕ) (nodes 
 pub record Fillable (ops nums kinds firsts counts nodes nfirsts ncounts refusals : List ℕ) (n : ℕ) : Type 0 where
   pub rules : ℕ → Rule
   pub held : Held ops nums kinds firsts counts rules n
-  pub in-nodes : 8960 ≤ length nodes
+  pub in-nodes : bookCells ≤ length nodes
   pub in-nfirsts : bookRules ≤ length nfirsts
   pub in-ncounts : bookRules ≤ length ncounts
   pub in-refusals : bookRules ≤ length refusals

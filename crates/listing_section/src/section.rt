@@ -59,7 +59,7 @@ pub(crate) fn put_split(
     requires { ⌜ Split (now ops) (now nums) first count ⌝ }
     ensures { λ r. ⌜ SplitWrote (now (ops .entry)) (now (nums .entry)) first count assumption (tape (now (out .entry)) at) (tape (now (out .exit)) r) ⌝ }
 {
-    let mut skeleton: [u64; SKELETON_ROOM] = [0; 512];
+    let mut skeleton: [u64; SKELETON_ROOM] = [0; SKELETON_ROOM];
     let mut owed: [u64; OWED_ROOM] = [0; OWED_ROOM];
     let answer = split(
         ops,

@@ -5,7 +5,7 @@ use mathlib.Core.Path.{_≡_}
 use Prim.Native.Nat.{ℕ, _+_, _≤_, _<_}
 use lib.Dec.{ltb}
 use lib.ListN.{length}
-use Rattle.terms.specs.Limits.{bookBytes, bookRules}
+use Rattle.terms.specs.Limits.{bookBytes, bookRules, steps}
 use Rattle.terms.specs.Choice.{pick}
 use Rattle.monitor.specs.Mon.{Mon, count}
 use Rattle.meaning.specs.State.{step, newlyFailed}
@@ -44,7 +44,7 @@ pub record Due (ops nums nodes nfirsts refusals : List ℕ) (n r : ℕ) (mem : M
   pub rows : Rows ops nums nodes nfirsts refusals rules n
   pub holding : Holding nfirsts rules n (stepped rules states (lineOf s w) r) mem
   pub inside : r < n
-  pub below : s < 9223372036854775808
+  pub below : s < steps
 
 pub record OneStepped (ops nums nodes nfirsts refusals : List ℕ) (n r : ℕ) (mem : Memory) (s w : ℕ) (before : Tape) (mem′ : Memory)
     (after : Tape) (written : ℕ) : Type 0 where
@@ -65,7 +65,7 @@ pub record LineDue (ops nums nodes nfirsts refusals : List ℕ) (n : ℕ) (mem :
   pub states : States rules
   pub rows : Rows ops nums nodes nfirsts refusals rules n
   pub holding : Holding nfirsts rules n states mem
-  pub below : s < 9223372036854775808
+  pub below : s < steps
 
 pub record LineStepped (ops nums nodes nfirsts refusals : List ℕ) (n : ℕ) (mem : Memory) (s w : ℕ) (before : Tape) (mem′ : Memory)
     (after : Tape) (written : ℕ) : Type 0 where

@@ -3,6 +3,7 @@ use listing_report::put_report;
 use reader::steps::StepRead;
 use reader::steps::next_step;
 use stepping::walk::step_node;
+use terms::limit::BOOK_ROWS;
 ghost use Rattle.stepping.specs.Walk.{Walkable};
 ghost use Rattle.text.specs.Tape.{tape};
 ghost use Rattle.listing_steps.specs.Stepped.{RuleStepped, Due, OneStepped, LineDue, LineStepped, LinesDue, LinesStepped, StepsDue, StepsReported};
@@ -216,10 +217,10 @@ pub fn report_steps(
     ensures { λ p. ⌜ StepsReported (now (text .entry)) from (now (ops .entry)) (now (nums .entry)) (now (nodes .entry)) (now (nfirsts .entry))
         (now (refusals .entry)) n (tape (now (out .entry)) at) (tape (now (out .exit)) (p .at)) (p .count) ⌝ }
 {
-    let mut held = [false; 1280];
-    let mut remaining = [0u64; 1280];
-    let mut failed = [false; 1280];
-    let mut culprits = [-1i64; 1280];
+    let mut held = [false; BOOK_ROWS];
+    let mut remaining = [0u64; BOOK_ROWS];
+    let mut failed = [false; BOOK_ROWS];
+    let mut culprits = [-1i64; BOOK_ROWS];
     put_reports(
         text,
         from,

@@ -17,6 +17,7 @@ use libc::STDIN_FILENO;
 use libc::STDOUT_FILENO;
 use reader::read::Answer;
 use reader::read::read_book;
+use terms::limit::BOOK_CELLS;
 use terms::limit::BOOK_NODES;
 use terms::limit::BOOK_RULES;
 use terms::limit::LABELS_ROOM;
@@ -81,7 +82,7 @@ fn run_rules(
 )
     requires { ⌜ n ≤ bookRules ⌝ }
 {
-    let mut nodes = [0u64; 8960];
+    let mut nodes = [0u64; BOOK_CELLS];
     let mut ncounts = [0usize; BOOK_RULES];
     let mut refusals = [0u64; BOOK_RULES];
     compile_rules(

@@ -35,6 +35,13 @@ rowCells = 7
 abbrev pub nodeCells : ℕ
 nodeCells = 1792
 
+-- rows that the rules of a book are compiled into: one for each of its nodes, and a rule's more in which the last is tried; and their numbers
+abbrev pub bookRows : ℕ
+bookRows = 1280
+
+abbrev pub bookCells : ℕ
+bookCells = 8960
+
 -- numbers that splitting a rule is lent: two an entry of the skeleton, three an obligation
 abbrev pub skeletonRoom : ℕ
 skeletonRoom = 512

@@ -26,6 +26,11 @@ pub const ROW_CELLS: usize = 7;
 // Numbers of the rows that compiling a rule is lent.
 pub const NODE_CELLS: usize = 1792;
 
+// Rows that the rules of a book are compiled into: one for each of its nodes, and a rule's more in which the last is tried; and their numbers.
+pub const BOOK_ROWS: usize = 1280;
+
+pub const BOOK_CELLS: usize = 8960;
+
 // Numbers that splitting a rule is lent: two an entry of the skeleton, three an obligation.
 pub const SKELETON_ROOM: usize = 512;
 
