@@ -16,7 +16,7 @@ use Rattle.monitor.specs.Compile as compile
 use Rattle.monitor.specs.Mon.{count}
 use Rattle.plan.specs.Book.{bitsBelow}
 use Rattle.plan.specs.Layout.{pieces, total}
-use Rattle.plan.specs.Width.{halvings, ceilLog2}
+use Rattle.plan.specs.Width.{firstPower, ceilLog2}
 use Rattle.alike.specs.Alike.{alikeMon}
 use Rattle.liveness.specs.Split as split
 use Rattle.liveness.specs.Text.{skeletonText}
@@ -37,9 +37,9 @@ use Rattle.listing_text.specs.Listing.{rulesListing, ruleAt, listing}
 use Rattle.listing_size.specs.Worked.{Lists, AllList, whole, others}
 
 pub whole-case : Lists whole
-unfolding digitOf below places valueIn plain decimalOf hexOf onto parts eqbs lookup wordOf printable isLabel kindOf ruleKind ruleLine atomLine boundLine stepLine content ofFields parse stands lastOf within firstFault fault bump spend add readOn ended read size depth all push forest treeOf run node nodeAt ruleOf pure value signsBy compile.faults compile.consequent compile.node compile.implication bitsBelow pieces total halvings ceilLog2 split.live truth unfailedStep obligationStep checkStep step digits joined signed spelled line nodeLines lines.ruleLine liveLine oweLines compiles mon firstBitOf firstBelow compilingOf upto nodesText liveText owesText ruleText rulesText breaks reportOf reportsAt reports endCount reportLine reportLines endLine rulesListing ruleAt listing
+unfolding digitOf below places valueIn plain decimalOf hexOf onto parts eqbs lookup wordOf printable isLabel kindOf ruleKind ruleLine atomLine boundLine stepLine content ofFields parse stands lastOf within firstFault fault bump spend add readOn ended read size depth all push forest treeOf run node nodeAt ruleOf pure value signsBy compile.faults compile.consequent compile.node compile.implication bitsBelow pieces total firstPower ceilLog2 split.live truth unfailedStep obligationStep checkStep step digits joined signed spelled line nodeLines lines.ruleLine liveLine oweLines compiles mon firstBitOf firstBelow compilingOf upto nodesText liveText owesText ruleText rulesText breaks reportOf reportsAt reports endCount reportLine reportLines endLine rulesListing ruleAt listing
 whole-case = refl
 
 pub worked-listings : AllList others
-unfolding digitOf below places valueIn plain decimalOf hexOf onto parts eqbs lookup wordOf printable isLabel kindOf ruleKind ruleLine atomLine boundLine stepLine content ofFields parse stands lastOf within firstFault fault bump spend add readOn ended read size depth all push forest treeOf run node nodeAt ruleOf pure value signsBy compile.faults compile.consequent compile.node compile.implication bitsBelow pieces total halvings ceilLog2 split.live truth unfailedStep obligationStep checkStep step digits joined signed spelled line nodeLines lines.ruleLine liveLine oweLines compiles mon firstBitOf firstBelow compilingOf upto nodesText liveText owesText ruleText rulesText breaks reportOf reportsAt reports endCount reportLine reportLines endLine rulesListing ruleAt listing agree count alikeMon split.faults split.skeletonOf split.obligationsOf skeletonText joinedStep marksText oweLine refusal likeOf refusedLine
+unfolding digitOf below places valueIn plain decimalOf hexOf onto parts eqbs lookup wordOf printable isLabel kindOf ruleKind ruleLine atomLine boundLine stepLine content ofFields parse stands lastOf within firstFault fault bump spend add readOn ended read size depth all push forest treeOf run node nodeAt ruleOf pure value signsBy compile.faults compile.consequent compile.node compile.implication bitsBelow pieces total firstPower ceilLog2 split.live truth unfailedStep obligationStep checkStep step digits joined signed spelled line nodeLines lines.ruleLine liveLine oweLines compiles mon firstBitOf firstBelow compilingOf upto nodesText liveText owesText ruleText rulesText breaks reportOf reportsAt reports endCount reportLine reportLines endLine rulesListing ruleAt listing agree count alikeMon split.faults split.skeletonOf split.obligationsOf skeletonText joinedStep marksText oweLine refusal likeOf refusedLine
 worked-listings = (refl, (refl, (refl, (refl, (refl, (refl, tt))))))

@@ -1,18 +1,18 @@
 -- `ceilLog2 n` is the least k with n ≤ 2^k, for every n; so `width b` is that of b + 1, for every bound b.
 use mathlib.Core.Path.{_≡_, refl, sym, ap, subst, _∙_}
 use mathlib.Core.Bool.{Bool, true, false}
-use Prim.Native.Nat.{ℕ, zero, suc, _+_, _-_, _*_, _/_, _^_, _≤_, _<_}
+use Prim.Native.Nat.{ℕ, zero, suc, _+_, _-_, _/_, _^_, _≤_, _<_}
 use native.Mathlib.Omega.{arith}
 use native.Mathlib.Nat.{two-pow-succ, pos-of-ne-zero, pow-le-pow-right}
-use native.Mathlib.Numerals.{one-add, add-one}
-use lib.Dec.{eqb}
+use native.Mathlib.Numerals.{one-add}
+use lib.Dec.{leb}
 use mathlib.Core.Logic.{⊎-elim}
 use Rattle.terms.specs.Choice.{pick}
 use Rattle.formula.proofs.Cases.{below-or}
 use mir.Syntax.{w64}
 use mir.Val.{Fits}
-use borrow.Author.Tests.{eqb-true, eqb-false}
-use Rattle.plan.specs.Width.{LeastPower, halvings, ceilLog2, width}
+use borrow.Author.Tests.{leb-true, leb-false}
+use Rattle.plan.specs.Width.{LeastPower, firstPower, ceilLog2, width}
 
 -- at most one number is the least
 pub least-only : {n j k : ℕ} → LeastPower n j → LeastPower n k → j ≡ k
@@ -32,32 +32,46 @@ least-half m k h w = record {
     below zero g = absurd (omega arith)
     below (suc i) g = omega (arith, w .least i (omega (arith, two-pow-succ i)))
 
-by-test : (n m : ℕ) (t : Bool) → eqb m 0 ≡ t → m ≤ suc n → (m / 2 ≤ n → LeastPower (m / 2 + 1) (halvings n (m / 2)))
-    → LeastPower (m + 1) (pick t 0 (1 + halvings n (m / 2)))
-by-test n m true e h w = least-none (m + 1) (omega (arith, eqb-true m 0 e))
-by-test n m false e h w = positive (eqb-false m 0 e)
-  where
-    positive : (m ≡ 0 → ⊥) → LeastPower (m + 1) (1 + halvings n (m / 2))
-    positive z =
-        let p : 0 < m = pos-of-ne-zero z in
-        least-half m (halvings n (m / 2)) p (w (omega arith))
-
-enough-halvings : (n m : ℕ) → m ≤ n → LeastPower (m + 1) (halvings n m)
-unfolding halvings
-enough-halvings zero m h = least-none (m + 1) (omega arith)
-enough-halvings (suc n) m h = by-test n m (eqb m 0) refl h (enough-halvings n (m / 2))
-
--- the law of `ceilLog2`: enough and least, for every n
-pub ceil-log2 : (n : ℕ) → LeastPower n (ceilLog2 n)
-unfolding ceilLog2 halvings
-ceil-log2 zero = least-none 0 (omega arith)
-ceil-log2 (suc m) =
-    let e : suc m - 1 + 1 ≡ suc m = omega arith in
-    subst (λ (n : ℕ). LeastPower n (halvings (suc m - 1) (suc m - 1))) e (enough-halvings (suc m - 1) (suc m - 1) (omega arith))
-
 pub two-pow-pos : (k : ℕ) → 0 < 2 ^ k
 two-pow-pos zero = omega arith
 two-pow-pos (suc k) = omega (arith, two-pow-pos k, two-pow-succ k)
+
+below-power : (n : ℕ) → n ≤ 2 ^ n
+below-power zero = omega arith
+below-power (suc n) = omega (arith, below-power n, two-pow-pos n, two-pow-succ n)
+
+-- nothing below k is enough, and k + tries is
+looked-for : (tries k n : ℕ) → n ≤ 2 ^ (k + tries) → ((j : ℕ) → n ≤ 2 ^ j → k ≤ j) → LeastPower n (firstPower tries k n)
+unfolding firstPower
+looked-for zero k n h l = record { enough = subst (λ (m : ℕ). n ≤ 2 ^ m) (add-zero k) h; least = l }
+  where
+    add-zero : (m : ℕ) → m + 0 ≡ m
+    add-zero m = omega arith
+looked-for (suc tries) k n h l = go (leb n (2 ^ k)) refl (looked-for tries (k + 1) n (subst (λ (m : ℕ). n ≤ 2 ^ m) moved h))
+  where
+    moved : k + suc tries ≡ k + 1 + tries
+    moved = omega arith
+
+    past : 2 ^ k < n → (j : ℕ) → n ≤ 2 ^ j → k + 1 ≤ j
+    past z j g = ⊎-elim
+        (λ (s : j < k + 1).
+        let e : j ≡ k = omega (arith, l j g) in
+        let f : n ≤ 2 ^ k = subst (λ (m : ℕ). n ≤ 2 ^ m) e g in
+        absurd (omega arith))
+        (λ s. s)
+        (below-or j (k + 1))
+
+    go : (t : Bool) → leb n (2 ^ k) ≡ t → (((j : ℕ) → n ≤ 2 ^ j → k + 1 ≤ j) → LeastPower n (firstPower tries (k + 1) n))
+        → LeastPower n (pick t k (firstPower tries (k + 1) n))
+    go true e later = record { enough = leb-true n (2 ^ k) e; least = l }
+    go false e later = later (past (leb-false n (2 ^ k) e))
+
+-- the law of `ceilLog2`: enough and least, for every n
+pub ceil-log2 : (n : ℕ) → LeastPower n (ceilLog2 n)
+unfolding ceilLog2
+ceil-log2 n =
+    let e : n ≡ 0 + n = omega arith in
+    looked-for n 0 n (subst (λ (m : ℕ). n ≤ 2 ^ m) e (below-power n)) (λ j h. omega arith)
 
 -- so it is k + 1 for every n past 2^k and up to 2^(k+1)
 pub ceil-log2-is : (n k : ℕ) → 2 ^ k < n → n ≤ 2 ^ (k + 1) → ceilLog2 n ≡ k + 1

@@ -11,7 +11,7 @@ use Rattle.meaning.specs.Alarm.{truth}
 use Rattle.meaning.specs.State.{step, checkStep, joinedStep, obligationStep, unfailedStep}
 use Rattle.meaning.specs.Calls.{firstReport}
 use Rattle.meaning.specs.Trips as stepped
-use Rattle.plan.specs.Width.{ceilLog2, halvings}
+use Rattle.plan.specs.Width.{firstPower, ceilLog2}
 use Rattle.plan.specs.Layout.{pieces, total}
 use Rattle.plan.proofs.Facts.{owing-bits}
 use Rattle.liveness.specs.Split as split
@@ -19,7 +19,7 @@ use Rattle.liveness.specs.Text.{skeletonText}
 use Rattle.trips.specs.Table.{computed, largest, trips, kept, allKept, sameText}
 
 computed-kept : allKept computed ≡ true
-unfolding allKept kept stepped.kept sameText faults consequent node implication pure value truth firstReport step checkStep joinedStep obligationStep unfailedStep size pieces total ceilLog2 halvings split.live split.faults split.skeletonOf split.obligationsOf skeletonText
+unfolding allKept kept stepped.kept sameText faults consequent node implication pure value truth firstReport step checkStep joinedStep obligationStep unfailedStep size pieces total ceilLog2 firstPower split.live split.faults split.skeletonOf split.obligationsOf skeletonText
 computed-kept = refl
 
 largest-kept : kept largest ≡ true

@@ -50,7 +50,7 @@ computed =
     live-refuses (two and (one eventually v0) (one always v1)) 23 ∷
     []
 
--- bound 2^64 - 1: its bits are by a law of the layout, as halving it counts down from the bound
+-- bound 2^64 - 1: its bits are by a law of the layout, as looking for them counts down from the bound
 abbrev pub largest : Row
 largest = takes (one (within 18446744073709551615) v1) 65
 
