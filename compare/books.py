@@ -6,13 +6,14 @@
     books.py largest OUT
 
 OUT holds many books: each is its length as 8 decimal digits and LF, then its bytes. --random is the
-number of random books (a sixth more have joined nodes only), --records the number of random records
-for every 64 small formulas that compile, after the 256 records of four words over two signals. The
-same arguments give the same books.
+number of random books (a sixth more have joined nodes only, a tenth more are opening lines with little
+after them), --records the number of random records for every 64 small formulas that compile, after the
+256 records of four words over two signals. The same arguments give the same books.
 """
 import argparse
 import os
 import random
+import re
 import subprocess
 import sys
 
@@ -23,6 +24,9 @@ ONE = ["not", "next", "always", "eventually"]
 BOUNDED = ["always-for", "within"]
 TWO = ["and", "or", "implies", "until"]
 PURE_TWO = ["and", "or", "implies"]
+STATES = 65535
+SLOTS = 32
+WIDTH = 64
 
 # A formula is a tuple: (atom, n), (word, f), (word, b, f), (word, f, g).
 
@@ -57,9 +61,15 @@ def text(lines):
     return "".join(line + "\n" for line in lines).encode("latin-1")
 
 
-def book(rules, record):
-    """rules: (label, kind, formula); record: (step, word)."""
-    out = []
+def opening(states, slots):
+    """Opening lines. states: a count, or None for no such line; slots: (name, width)."""
+    head = [] if states is None else [f"states\t{states}"]
+    return head + [f"slot\t{name}\t{width}" for name, width in slots]
+
+
+def book(rules, record, head=()):
+    """rules: (label, kind, formula); record: (step, word); head: opening lines."""
+    out = list(head)
     for label, kind, f in rules:
         out += rule(label, kind, f)
     return text(out + [step(s, w) for s, w in record])
@@ -303,6 +313,34 @@ def random_label(rng):
     return "".join(rng.choice(LABEL_BYTES) for _ in range(n))
 
 
+COUNTS = [0, 1, 2, 3, 4, 5, 255, 256, 257, STATES - 1, STATES]
+WIDTHS = [0, 1, WIDTH - 1, WIDTH]
+
+
+def random_slots(rng, many):
+    out = []
+    for _ in range(many):
+        name = rng.choice(out)[0] if out and rng.random() < 0.15 else random_label(rng)
+        out.append((name, rng.choice(WIDTHS) if rng.random() < 0.6 else rng.randrange(WIDTH + 1)))
+    return out
+
+
+def random_opening(rng):
+    """One opening line or more."""
+    states = rng.choice(COUNTS) if rng.random() < 0.8 else rng.randrange(STATES + 1)
+    if rng.random() < 0.3:
+        states = None
+    many = rng.choice([1, 1, 2, 2, 3, 5, 8, 16, SLOTS - 1, SLOTS, SLOTS])
+    if states is not None and rng.random() < 0.25:
+        many = 0
+    return opening(states, random_slots(rng, many))
+
+
+def some_opening(rng):
+    """Opening lines for one book of four."""
+    return random_opening(rng) if rng.random() < 0.25 else []
+
+
 def random_book(rng):
     """An accepted book."""
     maker = Maker(rng)
@@ -317,7 +355,15 @@ def random_book(rng):
         rules.append((random_label(rng), rng.choice("PPPA"), f))
     count = rng.choice([0, 1, 2, 3, 4, 5, 6, 8, 12, 20, 40])
     record = zip(random_steps(rng, count), random_words(rng, maker.signals, count))
-    return book(rules, record)
+    return book(rules, record, some_opening(rng))
+
+
+def opening_book(rng):
+    """Opening lines, then a rule or none, steps or none."""
+    maker = Maker(rng)
+    rules = [(random_label(rng), rng.choice("PA"), maker.check(rng.choice([1, 2, 4, 6]))) for _ in range(rng.choice([0, 1, 1, 2]))]
+    count = rng.choice([0, 0, 1, 3])
+    return book(rules, zip(random_steps(rng, count), random_words(rng, maker.signals, count)), random_opening(rng))
 
 
 def long_book(rng):
@@ -340,7 +386,7 @@ def long_book(rng):
         for _ in range(rng.choice([1, 4, 16])):
             rules.append((random_label(rng), rng.choice("PPPA"), maker.check(rng.choice([3, 6, 12]))))
         count = rng.choice([100, 300, 1000, 2000])
-    return book(rules, zip(random_steps(rng, count), random_words(rng, maker.signals, count)))
+    return book(rules, zip(random_steps(rng, count), random_words(rng, maker.signals, count)), some_opening(rng))
 
 
 def joined_book(rng):
@@ -378,7 +424,8 @@ def joined_book(rng):
     return book(rules, zip(random_steps(rng, count), words))
 
 
-WORDS = ATOMS + ONE + BOUNDED + TWO + ["rule", "step"]
+WORDS = ATOMS + ONE + BOUNDED + TWO + ["rule", "step", "states", "slot"]
+OPENING = (b"states\t", b"slot\t")
 
 
 def damaged(rng, data):
@@ -454,13 +501,18 @@ TRUTHS = [b"", b"0", b"0" * 15, b"0" * 16, b"0" * 17, b"f" * 16, b"F" * 16, b"01
 LABELS = [b"", b"x", b"!", b"~", b" ", b"\x1f", b"\x7f", b"\x80", b"\xff", b"\x00", b"a b", b"a\r", b"a" * 31, b"a" * 32,
           b"a" * 33, b"a" * 64, b"\xc3\xa9", b"rule", b"0", b"-", b"'", b"a" * 300]
 KINDS = [b"", b"P", b"A", b"p", b"a", b"PA", b"P ", b" P", b"B", b"\x00", b"P\r", b"0", b"E"]
-FIELDS = NUMBERS + TRUTHS + LABELS + KINDS + [w.encode() for w in WORDS]
+COUNT_TEXTS = [b"2", b"3", b"4", b"5", b"255", b"256", b"257", b"32768", b"32769", b"65534", b"65535", b"65536", b"65537", b"065535", b"65535 ", b"99999",
+               b"131071", b"655350", b"4294967296", b"4295032831"]
+WIDTH_TEXTS = [b"2", b"8", b"31", b"32", b"064", b"128", b"256", b"4294967296", b"4294967360"]
+FIELDS = NUMBERS + COUNT_TEXTS + TRUTHS + LABELS + KINDS + [w.encode() for w in WORDS]
 
 
 def fault_lines():
     out = [b"", b"\t", b"\t\t", b"\t\t\t", b" ", b"\r", b"\x00", b"\xff\xfe", b"\xef\xbb\xbfrule\tx\tP", b"rules\tx\tP", b"rul\tx\tP",
            b"Rule\tx\tP", b"RULE\tx\tP", b" rule\tx\tP", b"rule \tx\tP", b"rule x P", b"step 0 " + b"0" * 16, b"steps\t0\t" + b"0" * 16,
-           b"states\t3", b"slot\ta\t1", b"trip\tx", b"either", b"event\ta\tb", b"field\ta\tbool", b"implies ", b"true", b"T", b"var0",
+           b"state\t3", b"statess\t3", b"States\t3", b"STATES\t3", b" states\t3", b"states \t3", b"states 3", b"\xef\xbb\xbfstates\t3",
+           b"slo\ta\t1", b"slots\ta\t1", b"Slot\ta\t1", b"SLOT\ta\t1", b" slot\ta\t1", b"slot \ta\t1", b"slot a 1",
+           b"plan\t0\t0\t0\t0\t0", b"trip\tx", b"either", b"event\ta\tb", b"field\ta\tbool", b"implies ", b"true", b"T", b"var0",
            b"always for\t2", b"alwaysfor\t2", b"always_for\t2", b"always-fo\t2", b"always-fors\t2", b"wthin\t2", b"never", b"#", b"an", b"andd",
            b"nott", b"no", b"nex", b"nextt", b"alway", b"alwayss", b"eventuall", b"eventuallyy", b"unti", b"untill", b"implie", b"impliess",
            b"o", b"orr", b"va", b"varr", b"i", b"inn", b"ou", b"outt", b"withi", b"withinn", b"ste\t0\t" + b"0" * 16]
@@ -477,6 +529,9 @@ def fault_lines():
     out += [b"rule\t" + label + b"\tP" for label in LABELS]
     out += [b"rule\tx\t" + kind for kind in KINDS]
     out += [b"rule\t" + b"a" * 33 + b"\tX", b"rule\t\t"]
+    out += [b"states\t" + n for n in NUMBERS + COUNT_TEXTS]
+    out += [b"slot\ta\t" + n for n in NUMBERS + WIDTH_TEXTS]
+    out += [b"slot\t" + name + b"\t" + n for name in LABELS for n in [b"64", b"65"]]
     seen, kept = set(), []
     for line in out:
         if line not in seen:
@@ -536,11 +591,15 @@ def places():
         ("1023 nodes", some + ["rule\tlast\tP"] + partial(comb(5), 3)),
         ("depth 65", ["rule\ta\tP"] + ["not"] * 64),
         ("depth 64", ["rule\ta\tP"] + ["not"] * 63),
+        ("behind states", ["states\t3"]),
+        ("behind a slot", ["slot\ta\t5"]),
+        ("31 slots", opening(3, [("a", 64)] * 31)),
+        ("32 slots", opening(None, [("a", 64)] * 32)),
     ]
 
 
 def fault_books():
-    """Each line at each place, alone (so that the book may end inside a rule) and with lines after it."""
+    """Each line at each place, alone (so that the book may end inside a rule) and with lines after it; after an opening line they begin with a rule."""
     for name, before in places():
         head = text(before)
         heavy = len(head) > 2000
@@ -548,7 +607,8 @@ def fault_books():
             yield head + line + b"\n"
             if heavy and k % 4:
                 continue
-            yield head + line + b"\nvar\t3\nstep\t0\t0000000000000009\n"
+            start = b"rule\tz\tA\nalways\nwithin\t1\n" if line.startswith(OPENING) else b""
+            yield head + line + b"\n" + start + b"var\t3\nstep\t0\t0000000000000009\n"
 
 
 # ---- limits, met and passed
@@ -647,10 +707,8 @@ def limit_books():
     yield book([(f"r{k}", "P", ("always", big)) for k in range(5)], gapless([0] * 4))
     yield book([(f"r{k}", "P", ("always", ("within", 200, ("var", k)))) for k in range(60)], gapless([0] * 250))
     # the widest lines, and full books of many rules
-    wide = [("within", TOP, ("out", 63))] * 85
-    while len(wide) > 1:
-        wide = [("and", *wide[i : i + 2]) if i + 1 < len(wide) else wide[i] for i in range(0, len(wide), 2)]
-    rules = [("w" * 32, "P", ("always-for", TOP, wide[0])) for _ in range(4)]
+    wide = joined_by_and([("within", TOP, ("out", 63))] * 85)
+    rules = [("w" * 32, "P", ("always-for", TOP, wide)) for _ in range(4)]
     yield book(rules, [(LAST_STEP, 0)])
     yield filled(65535, book(rules, []))
     rules = [("w" * 31 + "~", "PA"[k % 2], ("always-for", TOP, ("next", ("not", ("in", k))))) for k in range(64)]
@@ -666,10 +724,73 @@ def limit_books():
         yield data
 
 
-# ---- books by hand: forms, culprits, gaps, liveness
+# ---- books by hand: opening lines; forms, culprits, gaps, liveness
 
 
 V0, V1, V2 = ("var", 0), ("var", 1), ("var", 2)
+
+
+def joined_by_and(parts):
+    while len(parts) > 1:
+        parts = [("and", *parts[i : i + 2]) if i + 1 < len(parts) else parts[i] for i in range(0, len(parts), 2)]
+    return parts[0]
+
+
+MOST_BITS = 16 + SLOTS * WIDTH + 362 * 65
+
+
+def most_bits_book():
+    """As many bits as a book can have. A rule of k windows of 65 bits takes 3k - 1 nodes, so 64 rules of 1,024 nodes have 362 windows."""
+    windows = [6] * 42 + [5] * 22
+    rules = [(f"r{k}", "PA"[k % 5 == 4], joined_by_and([("within", TOP, ("var", k))] * n)) for k, n in enumerate(windows)]
+    return book(rules, [(0, 0), (LAST_STEP, 0)], opening(STATES, [(f"slot{k}", WIDTH) for k in range(SLOTS)]))
+
+
+def opening_books():
+    """Counts at and beside each power of 2, each width, 30 to 34 slots, `states` at other lines, opening lines before nothing, steps, rules."""
+    trip = [("trip", "P", ("always", ("implies", V0, ("within", 3, V1))))]
+    four = [("window", "A", ("always", ("within", 7, V0))), ("next", "P", ("always", ("implies", V0, ("next", V1)))), ("owed", "P", ("eventually", V0)),
+            ("bare", "A", V0)]
+    record = gapless([1, 0, 0])
+    for n in sorted({2**k + d for k in range(17) for d in [-1, 0, 1]} | {5, 6, 7, STATES - 1, STATES + 2, 10**5, 2**32, 2**64 - 1, 2**64}):
+        yield text(opening(n, []))
+        yield book([], [(3, 1)], opening(n, []))
+        yield book(trip, record, opening(n, []))
+        yield book(four, record, opening(n, [("a", 1), ("b", 9)]))
+    for w in list(range(WIDTH + 3)) + [2**32, 2**32 + 1, 2**64]:
+        yield text(opening(None, [("a", w)]))
+        yield book([], [(3, 1)], opening(2, [("a", w)]))
+        yield book(trip, record, opening(None, [("a", w)]))
+        yield book(four, record, opening(3, [("a", w), ("b", 1), ("a", w)]))
+    for many in range(SLOTS - 2, SLOTS + 3):
+        for states in [None, 0, 1, 2, STATES]:
+            for w in [0, 1, WIDTH]:
+                head = opening(states, [(f"s{k}", w) for k in range(many)])
+                yield text(head)
+                yield book(four, record, head)
+            yield book([], [(0, 0)], opening(states, [("n" * (k % 32 + 1), k * 37 % 65) for k in range(many)]))
+    for n in [31, 32, 33]:
+        yield text(opening(None, [("~" * n, 1)]))
+        yield book(trip, record, opening(5, [("a", 1), ("!" * n, 2)]))
+    # `states` at another line, a slot past the last, opening lines after rules and steps; each test against the next
+    few, full = opening(None, [("a", 1), ("b", 2)]), opening(None, [("a", 64)] * SLOTS)
+    after_rule, after_step = rule("t", "P", V0), [step(0, 1)]
+    wrong = ["states\t3", "states\t0", "states\t65535", "states\t65536", "states\t00", "states\t", "states", "states\t1\t", "slot\ta\t1", "slot\ta\t65", "slot\t\t1",
+             "slot\t\t65", f"slot\t{'a' * 33}\t64", "slot\ta b\t064", "slot\ta", "slot", "slot\ta\t1\t"]
+    heads = [[], ["states\t3"], ["states\t3", "states\t3"], few, ["states\t0"] + few, full[1:], full, ["states\t65535"] + full, full + ["slot\ta\t1"]]
+    for head in heads:
+        for between in [[], after_rule, after_rule[:1], after_step, after_rule + after_step]:
+            for line in wrong:
+                yield text(head + between + [line])
+                yield text(head + between + [line] + rule("z", "A", V1) + [step(5, 0)])
+    yield most_bits_book()
+    head = opening(STATES, [("n" * 32, WIDTH)] * SLOTS)
+    for total in [65534, 65535, 65536]:
+        yield filled(total, book(trip, [], head))
+        yield filled(total, text(head))
+    yield filled(65535, text(head))[:-1]
+    yield text(head + ["states\t3"]) + b"\xff" * 60000 + b"\n"
+    yield text(opening(9, []))[:-1]
 
 
 def hand_books():
@@ -766,6 +887,7 @@ def largest_book():
 
 def all_books(seed, count, records, oracle):
     yield from hand_books()
+    yield from opening_books()
     yield from limit_books()
     yield from fault_books()
     rng = random.Random(f"{seed} small")
@@ -773,6 +895,9 @@ def all_books(seed, count, records, oracle):
     rng = random.Random(f"{seed} joined")
     for _ in range(count // 6):
         yield joined_book(rng)
+    rng = random.Random(f"{seed} opening")
+    for k in range(count // 10):
+        yield opening_book(rng) if k % 2 else damaged(rng, opening_book(rng))
     rng = random.Random(f"{seed} random")
     for _ in range(count):
         r = rng.random()
@@ -812,35 +937,79 @@ OPERANDS = {w: 1 for w in ONE + BOUNDED} | {w: 2 for w in TWO} | {w: 0 for w in 
 
 
 def reached(lines):
-    """How many rules the lines have, nodes of one rule, nodes, depth; the longest label."""
-    rules, nodes, most, total, deepest, label, due = 0, 0, 0, 0, 0, 0, []
+    """How many slots and rules the lines have, nodes of one rule, nodes, depth; the longest label, of a rule and of a slot."""
+    rules, nodes, most, total, deepest, label, due, slots, name = 0, 0, 0, 0, 0, 0, [], 0, 0
     for line in lines:
         fields = line.split(b"\t")
         word = fields[0].decode("latin-1")
-        if word == "rule" and len(fields) == 3:
+        if word == "slot" and len(fields) == 3:
+            slots, name = slots + 1, max(name, len(fields[1]))
+        elif word == "rule" and len(fields) == 3:
             rules, nodes, due, label = rules + 1, 0, [1], max(label, len(fields[1]))
         elif word in OPERANDS:
             here = due.pop() if due else 0
             nodes, total, deepest = nodes + 1, total + 1, max(deepest, here)
             most = max(most, nodes)
             due += [here + 1] * OPERANDS[word]
-    return {"rules": rules, "nodes of a rule": most, "nodes": total, "depth": deepest, "bytes of a label": label}
+    return {"rules": rules, "nodes of a rule": most, "nodes": total, "depth": deepest, "bytes of a label": label, "slots": slots, "bytes of a slot's name": name}
 
 
-LIMITS = {"rules": 64, "nodes of a rule": 256, "nodes": 1024, "depth": 64, "bytes of a label": 32}
+LIMITS = {"rules": 64, "nodes of a rule": 256, "nodes": 1024, "depth": 64, "bytes of a label": 32, "slots": SLOTS, "bytes of a slot's name": 32}
+PASSED = {"bytes of a label": "7", "bytes of a slot's name": "7", "slots": "25"}  # the refusal of a limit passed, where it is not 9
+NAME = re.compile(rb"[!-~]{1,32}")
+DECIMAL = re.compile(rb"0|[1-9][0-9]*")
+
+
+def shown_opening_line(number, fields):
+    """What a refused `states` or `slot` line shows: the tests that it would meet after its own, too."""
+    word = fields[0].decode()
+    out = {f"refused {number} for {word}"}
+    if number == "5":
+        return out
+    most = {"states": STATES, "slot": WIDTH}[word]
+    if word == "slot" and not NAME.fullmatch(fields[1]) and number != "7":
+        out.add(f"{number} before 7")
+    if not (DECIMAL.fullmatch(fields[-1]) and int(fields[-1]) <= most) and number != "8":
+        out.add(f"{number} before 8")
+    if number == "8" and fields[-1] == b"%d" % (most + 1):
+        out.add(f"refused for {most + 1} {'states' if word == 'states' else 'bits of a slot'}")
+    return out
 
 
 def shown_refused(data, number, line):
     out = {f"refused {number}"}
-    at = reached(data.split(b"\n")[: int(line)])
-    if number == "9":
-        out |= {f"refused for {limit + 1} {name}" for name, limit in LIMITS.items() if at[name] == limit + 1}
-    if number == "7" and at["bytes of a label"] == 33:
-        out.add("refused for 33 bytes of a label")
+    lines = data.split(b"\n")[: int(line)]
+    at = reached(lines)
+    out |= {f"refused for {limit + 1} {name}" for name, limit in LIMITS.items() if number == PASSED.get(name, "9") and at[name] == limit + 1}
+    fields = lines[-1].split(b"\t") if lines else [b""]
+    if fields[0] in [b"states", b"slot"] and number != "10":
+        out |= shown_opening_line(number, fields)
     if number == "3" and len(data) == 65536:
         out.add("refused for 65536 bytes")
     if number == "4" and len(data) == 65535:
         out.add("refused for no LF at byte 65535")
+    return out
+
+
+def shown_opening(data, rules, plan):
+    """What the opening lines of an accepted book and its `plan` line show."""
+    heads = [line.split(b"\t") for line in data.splitlines() if line.startswith(OPENING)]
+    counts = [int(fields[1]) for fields in heads if fields[0] == b"states"]
+    slots = [(fields[1], int(fields[2])) for fields in heads if fields[0] == b"slot"]
+    out = {f"states {n}" for n in counts} | {f"slot width {w}" for _, w in slots}
+    if slots:
+        out.add("slots behind states" if counts else "slots without states")
+    if len(dict(slots)) < len(slots):
+        out.add("two slots of one name")
+    state, slot, monitor, total, octets = [int(x) for x in plan]
+    if heads and not rules:
+        out.add("opening lines, then steps" if b"\nstep\t" in data else "opening lines alone")
+    if state and slot and monitor:
+        out.add("state, slot and monitor bits")
+    if total == MOST_BITS:
+        out.add(f"{MOST_BITS} bits")
+    if total:
+        out.add("whole bytes" if total == 8 * octets else f"bytes rounded up by {8 * octets - total}")
     return out
 
 
@@ -864,8 +1033,9 @@ def shown(data, answer):
         out |= {"65535 bytes"} | ({"65535 bytes with 64 rules"} if at["rules"] == 64 else set())
     if not data:
         out.add("the empty book")
-    if data and not at["rules"]:
+    if data.startswith(b"step\t"):
         out.add("steps without rules")
+    out |= shown_opening(data, at["rules"], next(fields[1:] for fields in text_lines if fields[0] == "plan"))
     number = "-"
     for fields in text_lines:
         if fields[0] == "rule":
@@ -889,12 +1059,12 @@ def shown(data, answer):
             blamed = "-1" if fields[3] == "-1" else "0" if fields[3] == "0" else "later"
             out |= {f"report of {roots[fields[2]]}, culprit {blamed}", f"report of a rule {kinds[fields[2]]}"}
     if any(x.startswith("report") for x in out):
-        out |= {f"report after {x}" for x in shown_steps(data)}
+        out |= {f"report after {x}" for x in shown_steps(data)} | ({"report after opening lines"} if data.startswith(OPENING) else set())
     return out
 
 
 WANTED = (
-    {f"refused {n}" for n in range(3, 11)}
+    {f"refused {n}" for n in [*range(3, 11), 25]}
     | {f"rule {n}{kind}" for n in [0] + list(range(11, 20)) for kind in [" P", " A"]}
     | {f"live {n}" for n in ["none", 0, 20, 21, 22, 23]}
     | {f"node {form}" for form in "CDBAO"}
@@ -909,7 +1079,13 @@ WANTED = (
     | {"65535 bytes", "65535 bytes with 64 rules", "refused for 65536 bytes", "refused for no LF at byte 65535", "report of a rule P", "report of a rule A"}
     | {f"report of {form}, culprit -1" for form in "CDAO"}
     | {f"report of {form}, culprit {b}" for form in "BAO" for b in ["0", "later"]}
-    | {f"report after {x}" for x in ["a gap", "a repeat", "a step back", "the next step", "step 2^63-1", "first step above 0"]}
+    | {f"report after {x}" for x in ["a gap", "a repeat", "a step back", "the next step", "step 2^63-1", "first step above 0", "opening lines"]}
+    | {f"states {n}" for n in [0, 1, 2, 3, 4, 255, 256, 257, STATES - 1, STATES]}
+    | {f"slot width {w}" for w in [0, 1, WIDTH - 1, WIDTH]}
+    | {f"refused {n} for {word}" for n in [5, 6, 25, 8] for word in ["states", "slot"]}
+    | {f"refused for {STATES + 1} states", f"refused for {WIDTH + 1} bits of a slot", "refused 7 for slot", "6 before 7", "6 before 8", "25 before 7", "25 before 8", "7 before 8"}
+    | {"slots behind states", "slots without states", "two slots of one name", "opening lines alone", "opening lines, then steps"}
+    | {"state, slot and monitor bits", f"{MOST_BITS} bits", "whole bytes", "bytes rounded up by 1", "bytes rounded up by 7"}
 )
 
 
@@ -920,13 +1096,16 @@ def vector_groups(rng, oracle):
     hand = list(hand_books())
     yield 17, hand[:17]
     yield 100, hand[17:]
+    yield 60, list(opening_books())
     yield 40, list(limit_books())
-    yield 70, list(fault_books())
+    yield 90, list(fault_books())
     yield 14, [book(as_rules(rng, rng.sample(small, 12), True), random_record(rng, 2, 6)) for _ in range(60)]
     yield 26, [book(as_rules(rng, rng.sample(good, 16), True), random_record(rng, 2, 8)) for _ in range(100)]
     yield 36, [joined_book(rng) for _ in range(200)]
     yield 44, [random_book(rng) for _ in range(600)]
     yield 16, [damaged(rng, random_book(rng)) for _ in range(300)]
+    yield 12, [opening_book(rng) for _ in range(200)]
+    yield 16, [damaged(rng, opening_book(rng)) for _ in range(300)]
 
 
 def vectors(folder, oracle, seed):

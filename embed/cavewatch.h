@@ -15,7 +15,7 @@
  *
  * Answers. Every call answers one number:
  *     0             accepted: read, compiled, made, stepped without a report, listed
- *     1 to 24       refused, by document 01's number
+ *     1 to 25       refused, by the number of document 01 or 02
  *     n + 256 * k   a book refused by number n at line k (cavewatch_read_book; the line is 0 for 1, 3 and 4)
  *     100           accepted, and the rule is newly broken (a report)
  *     101           there is no further step line
@@ -55,34 +55,36 @@ extern "C" {
 /* the least counts of elements */
 #define CAVEWATCH_RULES 64            /* lens, kinds, firsts, counts */
 #define CAVEWATCH_LABELS 2048         /* labels: 32 bytes for each rule */
+#define CAVEWATCH_SLOTS 32            /* sizes, widths */
+#define CAVEWATCH_NAMES 1024          /* names: 32 bytes for each slot */
 #define CAVEWATCH_FORMULA_NODES 1024  /* ops, nums */
 #define CAVEWATCH_NODES 1792          /* nodes: 256 rows of 7 numbers */
 #define CAVEWATCH_MONITOR 256         /* forms, bounds, held, remaining, failed, culprits */
 #define CAVEWATCH_LISTING 262144      /* out */
 
 /* the count of numbers that every `found` has */
-#define CAVEWATCH_FOUND 3
+#define CAVEWATCH_FOUND 6
 
 /* the number and the line in the answer to a book that is refused */
 #define CAVEWATCH_NUMBER(answer) ((answer) % 256)
 #define CAVEWATCH_LINE(answer) ((answer) / 256)
 
 /* goes up when a call's arguments or answers change */
-#define CAVEWATCH_VERSION 2
+#define CAVEWATCH_VERSION 3
 
 /* answers that are no refusal */
 #define CAVEWATCH_ACCEPTED 0
 #define CAVEWATCH_REPORT 100
 #define CAVEWATCH_END 101
 
-/* refusals, by document 01's number */
+/* refusals, by the number of document 01 or 02 */
 #define CAVEWATCH_TOO_SHORT 1             /* a lent table or output is too short */
 #define CAVEWATCH_MALFORMED 2             /* a lent table or monitor is not what it has to be */
 #define CAVEWATCH_BOOK_TOO_LONG 3         /* over 65,535 bytes */
 #define CAVEWATCH_BOOK_WITHOUT_LF 4       /* does not end in LF */
 #define CAVEWATCH_LINE_UNKNOWN 5          /* unknown word, or wrong count of fields */
 #define CAVEWATCH_LINE_MISPLACED 6        /* cannot stand here */
-#define CAVEWATCH_LABEL_OR_KIND 7
+#define CAVEWATCH_LABEL_OR_KIND 7         /* or a slot's name */
 #define CAVEWATCH_NUMBER_WRONG 8          /* malformed or out of range */
 #define CAVEWATCH_LIMIT_PASSED 9          /* of rules, nodes or depth */
 #define CAVEWATCH_BOOK_UNFINISHED 10      /* ends inside a rule */
@@ -96,6 +98,7 @@ extern "C" {
 #define CAVEWATCH_NOT_IMPURE 18
 #define CAVEWATCH_LIVENESS 19             /* eventually or until */
 #define CAVEWATCH_LATE_STEP 24            /* a step of 2^63 or more */
+#define CAVEWATCH_OPENING 25              /* `states` not on line 1, or a 33rd slot */
 
 /* words of a formula table */
 #define CAVEWATCH_VAR 0
@@ -120,8 +123,9 @@ extern "C" {
 #define CAVEWATCH_JOINED_OR 4
 
 /* Reads a book. On 0: rule r has the label of lens[r] bytes from labels + 32 * r on, the kind kinds[r] (0 property, 1 assumption), and the
- * counts[r] formula nodes from place firsts[r] of ops and nums on; found holds the count of rules, the count of formula nodes, and the place
- * in the text where the step lines begin. On a refusal CAVEWATCH_NUMBER and CAVEWATCH_LINE of the answer are its number and its line, from 1 on
+ * counts[r] formula nodes from place firsts[r] of ops and nums on; slot k has the name of sizes[k] bytes from names + 32 * k on and the width
+ * widths[k]; found holds the count of rules, the count of formula nodes, the place in the text where the step lines begin, the count of slots,
+ * 1 where a `states` line stood (else 0), and the count of states (0 where none stood). On a refusal CAVEWATCH_NUMBER and CAVEWATCH_LINE of the answer are its number and its line, from 1 on
  * (0 for 1, 3 and 4). */
 uint64_t cavewatch_read_book(
     const uint8_t *text, size_t text_count,
@@ -132,6 +136,9 @@ uint64_t cavewatch_read_book(
     size_t *counts, size_t counts_count,
     uint8_t *ops, size_t ops_count,
     uint64_t *nums, size_t nums_count,
+    uint8_t *names, size_t names_count,
+    size_t *sizes, size_t sizes_count,
+    uint64_t *widths, size_t widths_count,
     uint64_t *found);
 
 /* The step line at place `at` of a text. On 0: found holds the step, its truths, and the place behind the line's LF. CAVEWATCH_END: no step

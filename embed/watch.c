@@ -17,6 +17,11 @@ static uint8_t labels[CAVEWATCH_LABELS], kinds[CAVEWATCH_RULES], ops[CAVEWATCH_F
 static size_t lens[CAVEWATCH_RULES], firsts[CAVEWATCH_RULES], counts[CAVEWATCH_RULES];
 static uint64_t nums[CAVEWATCH_FORMULA_NODES];
 
+/* its slots */
+static uint8_t names[CAVEWATCH_NAMES];
+static size_t sizes[CAVEWATCH_SLOTS];
+static uint64_t widths[CAVEWATCH_SLOTS];
+
 /* the nodes of a compiled rule */
 static uint64_t nodes[CAVEWATCH_NODES];
 
@@ -108,7 +113,7 @@ static int watch_book(void)
 
     answer = cavewatch_read_book(text, text_count, labels, CAVEWATCH_LABELS, lens, CAVEWATCH_RULES, kinds, CAVEWATCH_RULES,
         firsts, CAVEWATCH_RULES, counts, CAVEWATCH_RULES, ops, CAVEWATCH_FORMULA_NODES, nums, CAVEWATCH_FORMULA_NODES,
-        found);
+        names, CAVEWATCH_NAMES, sizes, CAVEWATCH_SLOTS, widths, CAVEWATCH_SLOTS, found);
     if (answer != CAVEWATCH_ACCEPTED) {
         printf("book refused %" PRIu64 " at line %" PRIu64 "\n", CAVEWATCH_NUMBER(answer), CAVEWATCH_LINE(answer));
         return 0;

@@ -1,4 +1,5 @@
-//! The book (document 01, "The book" and refusals 3 to 10): bytes to rules and step lines.
+//! The book (document 01, "The book" and refusals 3 to 10; document 02, order 1: opening lines and 25): bytes to
+//! opening lines, rules and step lines.
 //! A formula is kept as its node lines in prefix order.
 
 #[derive(Debug, Clone, Copy, PartialEq, Eq)]
@@ -44,6 +45,13 @@ pub struct Node {
     pub number: u64,
 }
 
+/// A `slot` line: room for one variable of the instrument's.
+#[derive(Debug, Clone, Copy)]
+pub struct Slot<'a> {
+    pub name: &'a [u8],
+    pub width: u64,
+}
+
 #[derive(Debug, Clone)]
 pub struct Rule<'a> {
     pub label: &'a [u8],
@@ -57,8 +65,11 @@ pub struct Step {
     pub truths: u64,
 }
 
+/// `states` is the count of the `states` line, where one stands.
 #[derive(Debug, Clone, Default)]
 pub struct Book<'a> {
+    pub states: Option<u64>,
+    pub slots: Vec<Slot<'a>>,
     pub rules: Vec<Rule<'a>>,
     pub steps: Vec<Step>,
 }
@@ -76,6 +87,9 @@ const BOOK_NODES: usize = 1_024;
 const DEPTH: usize = 64;
 const SIGNALS: u64 = 64;
 const LABEL: usize = 32;
+const STATES: u64 = 65_535;
+const SLOTS: usize = 32;
+const WIDTH: u64 = 64;
 
 fn node_word(text: &[u8]) -> Option<Word> {
     Some(match text {
@@ -132,18 +146,20 @@ fn label_ok(text: &[u8]) -> bool {
     (1..=LABEL).contains(&text.len()) && text.iter().all(|c| (0x21..=0x7e).contains(c))
 }
 
-/// A book as it is being read. `due` holds the depths at which operands are still to come, the next
-/// one last: the formula is unfinished while it is not empty.
+/// A book as it is being read. `lines` counts its lines, the one that is taken included. `due` holds the depths at which operands are
+/// still to come, the next one last: the formula is unfinished while it is not empty.
 #[derive(Default)]
 struct Reading<'a> {
     book: Book<'a>,
+    lines: usize,
     due: Vec<usize>,
     book_nodes: usize,
 }
 
 impl<'a> Reading<'a> {
-    /// Takes one line; an `Err` is the lowest of 5 to 9 that it meets.
+    /// Takes one line; an `Err` is the first of 5, 6, 25, 7, 8, 9 that it meets.
     fn line(&mut self, line: &'a [u8]) -> Result<(), u32> {
+        self.lines += 1;
         let mut fields: [&[u8]; 3] = [b""; 3];
         let mut count = 0;
         for field in line.split(|c| *c == b'\t') {
@@ -153,6 +169,18 @@ impl<'a> Reading<'a> {
             count += 1;
         }
         match fields[0] {
+            b"states" => {
+                if count != 2 {
+                    return Err(5);
+                }
+                self.states(fields[1])
+            }
+            b"slot" => {
+                if count != 3 {
+                    return Err(5);
+                }
+                self.slot(fields[1], fields[2])
+            }
             b"rule" => {
                 if count != 3 {
                     return Err(5);
@@ -173,6 +201,38 @@ impl<'a> Reading<'a> {
                 self.node(word, fields[1])
             }
         }
+    }
+
+    /// Whether no `rule` and no `step` line came before.
+    fn opening(&self) -> bool {
+        self.book.rules.is_empty() && self.book.steps.is_empty()
+    }
+
+    fn states(&mut self, count: &[u8]) -> Result<(), u32> {
+        if !self.opening() {
+            return Err(6);
+        }
+        if self.lines != 1 {
+            return Err(25);
+        }
+        let count = decimal(count).filter(|n| *n <= STATES).ok_or(8u32)?;
+        self.book.states = Some(count);
+        Ok(())
+    }
+
+    fn slot(&mut self, name: &'a [u8], width: &[u8]) -> Result<(), u32> {
+        if !self.opening() {
+            return Err(6);
+        }
+        if self.book.slots.len() == SLOTS {
+            return Err(25);
+        }
+        if !label_ok(name) {
+            return Err(7);
+        }
+        let width = decimal(width).filter(|n| *n <= WIDTH).ok_or(8u32)?;
+        self.book.slots.push(Slot { name, width });
+        Ok(())
     }
 
     fn rule(&mut self, label: &'a [u8], kind: &[u8]) -> Result<(), u32> {
@@ -242,15 +302,13 @@ pub fn read(bytes: &[u8]) -> Result<Book<'_>, Refused> {
         return Err(Refused { number: 4, line: 0 });
     }
     let mut reading = Reading::default();
-    let mut lines = 0;
     for line in text.split(|c| *c == b'\n') {
-        lines += 1;
-        reading
-            .line(line)
-            .map_err(|number| Refused { number, line: lines })?;
+        if let Err(number) = reading.line(line) {
+            return Err(Refused { number, line: reading.lines });
+        }
     }
     if !reading.due.is_empty() {
-        return Err(Refused { number: 10, line: lines });
+        return Err(Refused { number: 10, line: reading.lines });
     }
     Ok(reading.book)
 }

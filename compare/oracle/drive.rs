@@ -1,5 +1,5 @@
 //! The driver: starts a program once for each book, gives it the book on standard input and holds
-//! what it writes to the oracle's answer. Or it holds document 01's sentences (paper.rs) to them.
+//! what it writes to the oracle's answer. Or it holds the documents' sentences (paper.rs) to them.
 
 use std::fs::{self, File};
 use std::io::{self, BufReader, Read, Write};

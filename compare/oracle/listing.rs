@@ -1,4 +1,4 @@
-//! The listing (document 01, "The listing") of a book as the source decides it: its `compile_formula`,
+//! The listing (document 01, "The listing"; the `plan` line of document 02's order 1) of a book as the source decides it: its `compile_formula`,
 //! `McPlan`, `LivenessDecomposition` and `ReferenceMonitor`. Only the text is made here.
 
 use std::io::Write;
@@ -9,8 +9,8 @@ use crate::codegen::monitor::{
 };
 use crate::codegen::AssumptionSelection;
 use crate::lang::ir::{
-    EventPattern, Expr, Formula, Module, OutputPattern, PatternExpr, PatternField, PatternVariant,
-    Property,
+    EnumDecl, EventPattern, Expr, Formula, Module, OutputPattern, PatternExpr, PatternField,
+    PatternVariant, Property, Type, VarDecl,
 };
 use crate::mc::plan::{
     compare_layouts, ConfigEncoding, LivenessDecomposition, LivenessObligation, McPlan, Skeleton,
@@ -315,9 +315,21 @@ fn holds(signal: &SignalExpr, word: u64) -> bool {
 
 // ---- the whole listing
 
-/// The rules as the source takes them. A rule's name is its number in the book.
+/// The book as the source takes it. The states are the variants of its enum `State`, of which only the count matters; without a
+/// `states` line there is no such enum. Slots are variables of their width. A rule's name is its number in the book.
 fn module_of(book: &Book<'_>) -> Module {
     let mut module = Module::default();
+    if let Some(count) = book.states {
+        let variants = vec![String::new(); count as usize];
+        module.enums.push(EnumDecl { name: "State".to_string(), variants });
+    }
+    for slot in &book.slots {
+        module.vars.push(VarDecl {
+            name: String::from_utf8(slot.name.to_vec()).expect("a name is a label"),
+            ty: Type::Bit { width: slot.width as u32 },
+            init: Expr::Int { value: 0 },
+        });
+    }
     for (number, rule) in book.rules.iter().enumerate() {
         let property = Property {
             name: number.to_string(),
@@ -378,7 +390,7 @@ pub fn compile(book: &Book<'_>, whole: bool) -> Compiled {
             .filter(move |plan| plan.is_assumption == assumption)
     };
     let ordered: Vec<&MonitorPlan> = of_kind(false).chain(of_kind(true)).collect();
-    let mut encoding: ConfigEncoding = compare_layouts(&ordered);
+    let mut encoding: ConfigEncoding = compare_layouts(&module, &ordered);
     if whole {
         let plan = McPlan::compute(&module, &AssumptionSelection::All);
         assert_eq!(encoding, plan.encoding, "the two layouts differ");
@@ -390,6 +402,11 @@ pub fn compile(book: &Book<'_>, whole: bool) -> Compiled {
         module,
         places,
     }
+}
+
+pub fn plan_line(encoding: &ConfigEncoding, out: &mut Vec<u8>) {
+    let ConfigEncoding { state_bits, vars_bits, monitors_bits, total_bits, total_bytes, .. } = encoding;
+    writeln!(out, "plan\t{state_bits}\t{vars_bits}\t{monitors_bits}\t{total_bits}\t{total_bytes}").unwrap();
 }
 
 fn accepted(book: &Book<'_>, whole: bool, out: &mut Vec<u8>) {
@@ -467,6 +484,7 @@ fn accepted(book: &Book<'_>, whole: bool, out: &mut Vec<u8>) {
             (Some(_), Some(_)) => unreachable!("split and refused"),
         }
     }
+    plan_line(&encoding, out);
 
     let mut monitors: Vec<(usize, ReferenceMonitor)> = plans
         .iter()

@@ -1,7 +1,7 @@
 //! The oracle: the source's compiling, stepping, layout and liveness behind our reader and printer.
 //!     oracle                       one book on standard input, its listing on standard output
 //!     oracle batch | slots         books in, answers out, framed (frames.rs): listings, or the lines of the program slots (slots.rs)
-//!     oracle paper | paper-slots   the same by document 01's words alone (paper.rs)
+//!     oracle paper | paper-slots   the same by the documents' words alone (paper.rs)
 //!     oracle bench N < BOOK        N listings of one book, ns for each
 //!     oracle drive PROGRAM BOOKS ANSWERS FOLDER JOBS      (drive.rs)
 //!     oracle hold paper | paper-slots BOOKS ANSWERS FOLDER JOBS     the same for paper.rs

@@ -1,6 +1,6 @@
-//! The listing of a book, and the lines of the program slots, by document 01's words alone, with none of the source in it. Alarms are
-//! taken from their sentences ("some u", "some t"), with no monitor state: this shows where the
-//! source and the document part. The reader is the one of book.rs.
+//! The listing of a book, and the lines of the program slots, by the words of document 01 and of document 02's orders alone, with none of the
+//! source in it. Alarms are taken from their sentences ("some u", "some t"), with no monitor state: this shows where the
+//! source and the documents part. The reader is the one of book.rs.
 //!
 //! Over a record with gaps, "step u-1" and "t to t+max(b,1)-1" count calls, and ranges and culprits go
 //! by the step number of the call.
@@ -241,10 +241,37 @@ fn compile_all(rules: &[(&Rule<'_>, Rulebook<'_>)]) -> Vec<Result<Check, u32>> {
     rules.iter().map(|(_, f)| compile(f, 0, open, false)).collect()
 }
 
-/// Properties first, then assumptions, each in book order, from bit 0.
-fn first_bits(rules: &[(&Rule<'_>, Rulebook<'_>)], checks: &[Result<Check, u32>]) -> Vec<u64> {
+/// Order 1: the state takes ceil(log2(count)) bits, 0 for counts 0 and 1; a `states` line left out counts 0.
+fn state_bits(book: &Book<'_>) -> u64 {
+    let count = book.states.unwrap_or(0);
+    (0..=16).find(|k| count <= 1 << k).unwrap()
+}
+
+/// The first bit of each slot, in order, behind the state; and of what follows the slots.
+fn slot_starts(book: &Book<'_>) -> (Vec<u64>, u64) {
+    let mut next = state_bits(book);
+    let mut starts = Vec::new();
+    for slot in &book.slots {
+        starts.push(next);
+        next += slot.width;
+    }
+    (starts, next)
+}
+
+/// State, slot, monitor and total bits, and bytes rounded up.
+fn plan_line(book: &Book<'_>, checks: &[Result<Check, u32>]) -> String {
+    let state = state_bits(book);
+    let slots: u64 = book.slots.iter().map(|slot| slot.width).sum();
+    let monitors: u64 = checks.iter().flatten().map(bits).sum();
+    let total = state + slots + monitors;
+    let bytes = (0..=total).find(|bytes| total <= 8 * bytes).unwrap();
+    format!("plan\t{state}\t{slots}\t{monitors}\t{total}\t{bytes}\n")
+}
+
+/// Properties first, then assumptions, each in book order, behind the slots.
+fn first_bits(book: &Book<'_>, rules: &[(&Rule<'_>, Rulebook<'_>)], checks: &[Result<Check, u32>]) -> Vec<u64> {
     let mut first_bit = vec![0; rules.len()];
-    let mut next_bit = 0;
+    let (_, mut next_bit) = slot_starts(book);
     for assumption in [false, true] {
         for (k, check) in checks.iter().enumerate() {
             if let (Ok(check), true) = (check, rules[k].0.assumption == assumption) {
@@ -360,7 +387,7 @@ fn rules_of<'a>(book: &'a Book<'_>) -> Vec<(&'a Rule<'a>, Rulebook<'a>)> {
 fn accepted(book: &Book<'_>) -> String {
     let rules = rules_of(book);
     let checks = compile_all(&rules);
-    let first_bit = first_bits(&rules, &checks);
+    let first_bit = first_bits(book, &rules, &checks);
 
     let mut out = String::new();
     let mut earlier: Vec<(usize, Vec<String>)> = Vec::new();
@@ -396,6 +423,7 @@ fn accepted(book: &Book<'_>) -> String {
             }
         }
     }
+    out.push_str(&plan_line(book, &checks));
 
     let mut reports: Vec<(usize, usize, i64)> = Vec::new();
     for (k, check) in checks.iter().enumerate() {
@@ -418,8 +446,12 @@ fn accepted(book: &Book<'_>) -> String {
 fn accepted_slots(book: &Book<'_>) -> String {
     let rules = rules_of(book);
     let checks = compile_all(&rules);
-    let first_bit = first_bits(&rules, &checks);
-    let (mut out, mut pairs) = (String::new(), String::new());
+    let first_bit = first_bits(book, &rules, &checks);
+    let (mut out, mut pairs) = (plan_line(book, &checks), String::new());
+    let (starts, _) = slot_starts(book);
+    for (j, (slot, start)) in book.slots.iter().zip(starts).enumerate() {
+        writeln!(out, "var\t{j}\t{start}\t{}", slot.width).unwrap();
+    }
     let mut earlier: Vec<(usize, Vec<String>)> = Vec::new();
     for (k, (_, f)) in rules.iter().enumerate() {
         let Ok(check) = &checks[k] else { continue };

@@ -1,5 +1,5 @@
-//! The lines of the program slots, as the source decides them: first bits and bits by its `McPlan`, a node's by
-//! `MonitorNodeState`, alike by its equality of nodes.
+//! The lines of the program slots, as the source decides them: the plan, first bits and bits by its `McPlan`, a slot's by `VarSlot`,
+//! a node's by `MonitorNodeState`, alike by its equality of nodes.
 //!
 //! The source has no `MonitorNodeState` for a node without bits; its offset is then where the next bit would come.
 
@@ -7,7 +7,8 @@ use std::io::Write;
 
 use crate::book::{read, Book};
 use crate::codegen::monitor::MonNode;
-use crate::listing::{compile, one_letter, refused_line};
+use crate::lang::ir::Module;
+use crate::listing::{compile, one_letter, plan_line, refused_line};
 use crate::mc::plan::{compare_layouts, MonitorStateLayout};
 
 fn count(node: &MonNode) -> usize {
@@ -33,13 +34,17 @@ fn slot_lines(number: usize, nodes: usize, layout: &MonitorStateLayout, out: &mu
 
 fn accepted(book: &Book<'_>, out: &mut Vec<u8>) {
     let compiled = compile(book, true);
+    plan_line(&compiled.encoding, out);
+    for (number, slot) in compiled.encoding.var_slots.iter().enumerate() {
+        writeln!(out, "var\t{number}\t{}\t{}", slot.offset_bits, slot.width_bits).unwrap();
+    }
     let mut seen: Vec<(usize, MonNode)> = Vec::new();
     let mut pairs = Vec::new();
     for (number, plan) in compiled.plans.iter().enumerate() {
         let Ok(plan) = plan else { continue };
         let laid = |l: &&MonitorStateLayout| l.label == number.to_string();
         let layout = compiled.encoding.monitors.iter().find(laid).expect("a compiled rule has a layout");
-        let alone = &compare_layouts(&[plan]).monitors[0];
+        let alone = &compare_layouts(&Module::default(), &[plan]).monitors[0];
         writeln!(out, "rule\t{number}\t{}\t{}\t{}", layout.offset_bits, layout.total_bits, alone.total_bits).unwrap();
         slot_lines(number, count(&plan.root), layout, out);
         let root = one_letter(&plan.root);

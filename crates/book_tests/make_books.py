@@ -2,7 +2,7 @@
 """Writes data/b000, b001, .. and stdout: the books of this program and what it has to print.
 
 python3 crates/book_tests/make_books.py, at the repository's root. The answers come from the reader written here in Python,
-straight from document 01, and not from the proved one.
+straight from documents 01 and 02, and not from the proved one.
 """
 import os
 
@@ -18,25 +18,43 @@ def decimal(b):
     return int(b) if int(b) < 2**64 else None
 
 
+def is_label(b):
+    return 1 <= len(b) <= 32 and all(0x21 <= c <= 0x7E for c in b)
+
+
 def read(t):
     if len(t) > 65535:
         return ("refused", 3, 0)
     if t and t[-1] != 10:
         return ("refused", 4, 0)
-    rules, nodes, steps, due, head = [], [], [], [], 0
+    states, slots, rules, nodes, steps, due, head = None, [], [], [], [], [], 0
     lines = t.split(b"\n")[:-1] if t else []
     for k, line in enumerate(lines, 1):
         f = line.split(b"\t")
         word = f[0].decode("latin1")
         op = WORDS.index(word) if word in WORDS else None
-        want = {"rule": 3, "step": 3}.get(word, None if op is None else 2 if op in (0, 1, 2, 7, 8) else 1)
+        want = {"states": 2, "slot": 3, "rule": 3, "step": 3}.get(word, None if op is None else 2 if op in (0, 1, 2, 7, 8) else 1)
         if want is None or len(f) != want:
             return ("refused", 5, k)
-        if word == "rule":
+        if word in ("states", "slot"):
+            if rules or steps:
+                return ("refused", 6, k)
+            if (word == "states" and k > 1) or (word == "slot" and len(slots) == 32):
+                return ("refused", 25, k)
+            if word == "slot" and not is_label(f[1]):
+                return ("refused", 7, k)
+            n = decimal(f[-1])
+            if n is None or n > (65535 if word == "states" else 64):
+                return ("refused", 8, k)
+            if word == "states":
+                states = n
+            else:
+                slots.append((f[1], n))
+        elif word == "rule":
             if due or steps:
                 return ("refused", 6, k)
             label = f[1]
-            if not 1 <= len(label) <= 32 or any(not 0x21 <= c <= 0x7E for c in label) or f[2] not in (b"P", b"A"):
+            if not is_label(label) or f[2] not in (b"P", b"A"):
                 return ("refused", 7, k)
             if len(rules) == 64:
                 return ("refused", 9, k)
@@ -65,16 +83,19 @@ def read(t):
             head += len(line) + 1
     if due:
         return ("refused", 10, len(lines))
-    return ("read", rules, nodes, steps, head)
+    return ("read", states, slots, rules, nodes, steps, head)
 
 
 def shown(t):
     a = read(t)
-    kept = b" kept" * 7 + b"\n"
+    kept = b" kept" * 10 + b"\n"
     if a[0] == "refused":
         return b" refused\t%d\t%d" % (a[1], a[2]) + kept
-    _, rules, nodes, steps, head = a
-    out = b" read\t%d\t%d\t%d" % (len(rules), len(nodes), head) + kept
+    _, states, slots, rules, nodes, steps, head = a
+    stood = b"-" if states is None else b"%d" % states
+    out = b" read\t%d\t%d\t%d\t%d\t" % (len(rules), len(nodes), head, len(slots)) + stood + kept
+    for name, width in slots:
+        out += b"slot " + name + b"." * (32 - len(name)) + b"\t%d\t%d\n" % (len(name), width)
     for label, kind, first, count in rules:
         out += b"rule " + label + b"." * (32 - len(label)) + b"\t%d\t%d\t%d\t%d\n" % (len(label), kind, first, count)
     for op, n in nodes:
@@ -106,15 +127,21 @@ def deep(d):
     return ["not"] * (d - 1) + ["var 63"]
 
 
-def sized(n):
-    """A book of exactly n bytes: step lines, the last numbers made longer."""
+def sized(n, *before):
+    """A book of exactly n bytes: step lines behind some others, the first numbers made longer."""
+    head = text(*before)
     step = "step 0 0000000000000000"
     each = len(step) + 1
-    rows = [step] * (n // each)
-    rest = n - each * len(rows)
+    rows = [step] * ((n - len(head)) // each)
+    rest = n - len(head) - each * len(rows)
     for i in range(rest):
         rows[i] = "step 10 0000000000000000"
-    return text(*rows)
+    return head + text(*rows)
+
+
+def slots(n):
+    """n slot lines: names of 1 to 32 bytes, widths 0 to 64."""
+    return ["slot %s %d" % ("s" * (i % 32 + 1), 64 if i == 31 else 2 * i) for i in range(n)]
 
 
 BOOKS = [
@@ -160,6 +187,26 @@ BOOKS = [
     text("rule a P", *(["not"] * 64), "var 64"), text(*[l for i in range(64) for l in ("rule r%d P" % i, "var 1")], "rule  P"),
     # 10
     text("rule a P"), text("rule a P", "and", "var 0"), text("rule a P", "var 0", "rule b A", "until", "not", "var 1"),
+    # opening lines: before nothing, steps, rules
+    text("states 0"), text("states 65535", "slot a 64", "slot a 0", "slot " + "~" * 32 + " 1", *WHOLE), text("slot depth 63", *WHOLE),
+    text("states 1", "step 5 00000000000000ff"), text("slot ! 64", "step 5 00000000000000ff"), text("states 2", "rule a P", "var 0"),
+    text(*slots(32)), text("states 4", *slots(32), *WHOLE), sized(65535, "states 3", *slots(32)), sized(65536, "states 3"),
+    text("states 3")[:-1], text("states 3", "slot a 1", "rule a P", "not"),
+    # 25, before 7 and 8; 5 before 25
+    text("states 1", "states 1"), text("states 1", "states 01"), text("slot a 1", "states 1"), text("states 1", "slot a 1", "states 65536"),
+    text(*slots(32), "states 1"), text(*slots(32), "slot a 1"), text("states 1", *slots(32), "slot a 1"), text(*slots(32), "slot  1"),
+    text(*slots(32), "slot a 65"), text("states 1", "states"), text(*slots(32), "slot a"),
+    # 5
+    text("states"), text("states 1 "), text("slot a"), text("slot a 1 1"), text("state 1"), text("slots a 1"), text("Slot a 1"),
+    # 6, before 25, 7 and 8
+    text("rule a P", "states 1"), text("rule a P", "var 0", "states x"), text("step 0 0000000000000000", "states 1"), text("rule a P", "and", "slot a 1"),
+    text("rule a P", "var 0", "slot  65"), text("step 0 0000000000000000", "slot a 1"), text(*slots(32), "rule a P", "var 0", "slot a 1"),
+    text("states 1", "slot a 1", "var 99"), text("slot a 1", "step 0 0000000000000000", "rule b P"),
+    # 7, before 8
+    text("slot  1"), text("slot " + "n" * 33 + " 1"), text("slot  65"), b"slot\ta b\t1\n", b"slot\t\x7f\t00\n", text(*slots(31), "slot  "),
+    # 8
+    text("states 65536"), text("states 00"), text("states "), text("states -1"), text("states 18446744073709551616"), b"states\t1\r\n",
+    text("slot a 65"), text("slot a 064"), text("slot a "), text("slot a 18446744073709551616"),
 ]
 
 if __name__ == "__main__":

@@ -14,7 +14,7 @@ use lib.ListN.{length, getD, take, drop, length-drop, drop-of-length-le}
 use lib.Seq.{drop-drop, length-take-le}
 use Rattle.terms.specs.Choice.{pick}
 use Rattle.line.specs.Text.{lines, parts, firstAt, Found}
-use Rattle.line.specs.Line.{Line, bad, wrong, right, rule, node, step, parse}
+use Rattle.line.specs.Line.{Line, bad, wrong, right, rule, node, step, states, slot, parse}
 use Rattle.line.specs.Means.{means}
 use Rattle.line.specs.declared.line.Line as code
 use Rattle.line.proofs.Parts.{lines-next}
@@ -90,6 +90,8 @@ head-grows n b (wrong o f) = omega arith
 head-grows n b (right (rule l k)) = omega arith
 head-grows n b (right (node op v)) = omega arith
 head-grows n b (right (step s w)) = omega arith
+head-grows n b (right (states c)) = omega arith
+head-grows n b (right (slot x w)) = omega arith
 
 next-inj : {s s′ : State} → Next s ≡ Next s′ → s ≡ s′
 next-inj e = cc
@@ -149,9 +151,9 @@ module _ (text : List ℕ) (s : State) (at line : ℕ) (v : Run text s at line) 
   unfolding readOn parts
   run-unfinished h d = sym (ap bookResult (v .same) ∙ rw (drop-of-length-le text h, inside (v .book) s (v .holds) d) refl)
 
-  pub run-done : length text ≤ at → s .depth ≤ 0 → resultOf (Good (s .rules) (s .nodes) (s .head)) ≡ bookResult (readOn empty 0 (lines text))
+  pub run-done : length text ≤ at → s .depth ≤ 0 → resultOf (Good (s .rules) (s .nodes) (s .head) (s .slots) (s .states)) ≡ bookResult (readOn empty 0 (lines text))
   unfolding readOn parts
-  run-done h d = sym (ap bookResult (v .same) ∙ rw (drop-of-length-le text h, outside (v .book) s (v .holds) d, v .holds .rules, v .holds .nodes, v .holds .head) refl)
+  run-done h d = sym (ap bookResult (v .same) ∙ rw (drop-of-length-le text h, outside (v .book) s (v .holds) d, v .holds .rules, v .holds .nodes, v .holds .head, v .holds .slots, v .holds .states) refl)
 
   pub run-small : Small (s .depth) (s .bits)
   run-small = v .holds .small

@@ -1,4 +1,4 @@
--- Document 01, "The book": from bytes to what a book holds, or to the refusal with its line.
+-- Document 01, "The book", with the opening lines of document 02, order 1: from bytes to what a book holds, or to the refusal with its line.
 --     Book       what has been read so far
 --     fault      what the first test of `order` that a line fails finds
 --     add        what a line's content adds
@@ -12,14 +12,16 @@ use mathlib.Core.Option.{Option, none, some}
 use Prim.Native.Nat.{ℕ, zero, suc, _+_}
 use lib.Dec.{leb, ltb, eqb}
 use lib.ListN.{length}
-use Rattle.terms.specs.Limits.{bookBytes, bookNodes, bookRules, deepest, ruleNodes}
+use Rattle.terms.specs.Limits.{bookBytes, bookNodes, bookRules, bookSlots, deepest, ruleNodes}
 use Rattle.terms.specs.Ops.{notOp, andOp}
 use Rattle.terms.specs.Choice.{pick}
 use Rattle.line.specs.Text.{lines}
-use Rattle.line.specs.Line.{Content, rule, node, step, sortOf, Line, bad, wrong, right, flawNumber, parse}
+use Rattle.line.specs.Line.{Content, rule, node, step, states, slot, sortOf, Line, bad, wrong, right, flawNumber, parse}
 use Rattle.line.specs.declared.line.Sort.{Sort}
 use Rattle.line.specs.declared.line.Sort.the-variants as sort
 use Rattle.line.specs.declared.line.Flaw.{Flaw}
+use Rattle.book.specs.declared.state.States.{States}
+use Rattle.book.specs.declared.state.States.the-variants.{Absent, Stood}
 
 -- a step line: its number and its truths
 pub record StepLine : Type 0 where
@@ -27,7 +29,8 @@ pub record StepLine : Type 0 where
   pub truths : ℕ
 
 -- The rule list by columns, a place for each rule; the formula table by columns, a place for each node; the steps.
--- A rule is its first place in the formula table and its count of nodes.
+-- A rule is its first place in the formula table and its count of nodes. The opening lines: the count of states, or that no `states` line stood;
+-- the slots by columns.
 pub record Book : Type 0 where
   pub labels : List (List ℕ)
   pub kinds : List ℕ
@@ -40,24 +43,60 @@ pub record Book : Type 0 where
   pub due : List ℕ
   -- the bytes of the lines before the step lines
   pub head : ℕ
+  pub states : States
+  pub names : List (List ℕ)
+  pub widths : List ℕ
 
 abbrev pub empty : Book
-empty = record { labels = []; kinds = []; firsts = []; counts = []; ops = []; nums = []; steps = []; due = []; head = 0 }
+empty = record {
+  labels = [];
+  kinds = [];
+  firsts = [];
+  counts = [];
+  ops = [];
+  nums = [];
+  steps = [];
+  due = [];
+  head = 0;
+  states = Absent;
+  names = [];
+  widths = [];
+}
 
 abbrev pub isNil {ℓ} : {A : Type ℓ} → List A → Bool
 isNil [] = true
 isNil (a ∷ l) = false
+
+-- how many states there are: a `states` line left out counts 0
+abbrev pub countIn : States → ℕ
+countIn Absent = 0
+countIn (Stood c) = c
 
 -- no rule is unfinished
 abbrev pub whole : Book → Bool
 whole b = isNil (b .due)
 
 -- ---- the tests on a line
--- where a line may stand: a rule after whole rules and before all steps, a node inside a rule, a step after whole rules
+-- no rule and no step has been read: the lines so far are opening lines
+unfoldable pub opening : Book → Bool
+opening b = isNil (b .labels) && isNil (b .steps)
+
+-- where a line may stand: a rule after whole rules and before all steps, a node inside a rule, a step after whole rules, an opening line before
+-- all rules and steps
 unfoldable pub stands : Book → Sort → Bool
 stands b sort.Rule = whole b && isNil (b .steps)
 stands b sort.Node = not (whole b)
 stands b sort.Step = whole b
+stands b sort.States = opening b
+stands b sort.Slot = opening b
+
+-- among the opening lines: `states` is the book's first line (no byte stands before it), and there are at most 32 slots
+unfoldable pub opens : Book → Sort → Bool
+opens b sort.Rule = true
+opens b sort.Node = true
+opens b sort.Step = true
+opens b sort.States = eqb (b .head) 0
+opens b sort.Slot = ltb (length (b .names)) bookSlots
 
 -- the nodes of the rule in hand, and the depth at which its next node stands
 unfoldable pub lastOf : List ℕ → ℕ
@@ -74,17 +113,21 @@ unfoldable pub within : Book → Sort → Bool
 within b sort.Rule = ltb (length (b .labels)) bookRules
 within b sort.Node = ltb (lastOf (b .counts)) ruleNodes && (ltb (length (b .ops)) bookNodes && leb (headOf (b .due)) deepest)
 within b sort.Step = true
+within b sort.States = true
+within b sort.Slot = true
 
 pub data Fault : Type 0 where
   word : Fault  -- the word is unknown or its field count wrong
   place : Fault  -- the line cannot stand here
+  unopened : Fault  -- a `states` line that is not the first line, or a slot too many
   field : Flaw → Fault  -- a label, a kind or a number is wrong
   limit : Fault  -- a limit on rules, nodes or depth is passed
 
--- document 01's numbers
+-- document 01's numbers, and document 02's
 abbrev pub numberOf : Fault → ℕ
 numberOf word = 5
 numberOf place = 6
+numberOf unopened = 25
 numberOf (field f) = flawNumber f
 numberOf limit = 9
 
@@ -107,7 +150,7 @@ bySort test f b (right c) = pick (test b (sortOf c)) none (some f)
 
 -- the order in which a line is tested
 abbrev pub order : List (Book → Line → Option Fault)
-order = noWord ∷ bySort stands place ∷ wrongField ∷ bySort within limit ∷ []
+order = noWord ∷ bySort stands place ∷ bySort opens unopened ∷ wrongField ∷ bySort within limit ∷ []
 
 abbrev pub orElse : Option Fault → Option Fault → Option Fault
 orElse none o = o
@@ -144,6 +187,9 @@ add n b (rule l k) = record {
   steps = b .steps;
   due = 1 ∷ [];
   head = b .head + n;
+  states = b .states;
+  names = b .names;
+  widths = b .widths;
 }
 add n b (node op v) = record {
   labels = b .labels;
@@ -155,6 +201,9 @@ add n b (node op v) = record {
   steps = b .steps;
   due = spend op (b .due);
   head = b .head + n;
+  states = b .states;
+  names = b .names;
+  widths = b .widths;
 }
 add n b (step s w) = record {
   labels = b .labels;
@@ -166,6 +215,37 @@ add n b (step s w) = record {
   steps = b .steps ++ record { number = s; truths = w } ∷ [];
   due = b .due;
   head = b .head;
+  states = b .states;
+  names = b .names;
+  widths = b .widths;
+}
+add n b (states c) = record {
+  labels = b .labels;
+  kinds = b .kinds;
+  firsts = b .firsts;
+  counts = b .counts;
+  ops = b .ops;
+  nums = b .nums;
+  steps = b .steps;
+  due = b .due;
+  head = b .head + n;
+  states = Stood c;
+  names = b .names;
+  widths = b .widths;
+}
+add n b (slot l w) = record {
+  labels = b .labels;
+  kinds = b .kinds;
+  firsts = b .firsts;
+  counts = b .counts;
+  ops = b .ops;
+  nums = b .nums;
+  steps = b .steps;
+  due = b .due;
+  head = b .head + n;
+  states = b .states;
+  names = b .names ++ l ∷ [];
+  widths = b .widths ++ w ∷ [];
 }
 
 -- only a right line adds anything
@@ -179,13 +259,14 @@ pub data Outcome : Type 0 where
   accepted : Book → Outcome
   refused : ℕ → ℕ → Outcome  -- document 01's number, and the line
 
--- document 01's result: how many rules and nodes the book holds and the byte at which its step lines begin; or the number and the line
+-- document 01's result: how many rules and nodes the book holds and the byte at which its step lines begin, how many slots, and its states; or the
+-- number and the line
 pub data BookResult : Type 0 where
-  contents : ℕ → ℕ → ℕ → BookResult
+  contents : ℕ → ℕ → ℕ → ℕ → States → BookResult
   refusal : ℕ → ℕ → BookResult
 
 abbrev pub bookResult : Outcome → BookResult
-bookResult (accepted b) = contents (length (b .labels)) (length (b .ops)) (b .head)
+bookResult (accepted b) = contents (length (b .labels)) (length (b .ops)) (b .head) (length (b .names)) (b .states)
 bookResult (refused n k) = refusal n k
 
 -- a fault in the line behind k others refuses the book, whatever follows

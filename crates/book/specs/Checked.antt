@@ -6,14 +6,14 @@ use mathlib.Core.Option.{Option, none, some}
 use Prim.Native.Nat.{ℕ, zero, suc, _+_, _*_, _/_, _%_, _^_, _≤_, _<_}
 use lib.Dec.{eqb}
 use lib.ListN.{length}
-use Rattle.terms.specs.Limits.{bookBytes, bookNodes, bookRules, deepest, ruleNodes}
+use Rattle.terms.specs.Limits.{bookBytes, bookNodes, bookRules, bookSlots, deepest, ruleNodes}
 use Rattle.terms.specs.Choice.{pick}
 use Rattle.line.specs.Line.{Line}
 use Rattle.line.specs.Means.{held, sortIn, means}
 use Rattle.line.specs.declared.line.Sort.{Sort}
 use Rattle.line.specs.declared.line.Sort.the-variants as sort
 use Rattle.line.specs.declared.line as code
-use Rattle.book.specs.Book.{Book, isNil, lastOf, stands, within, Fault, numberOf, fault, add, addLine, BookResult, contents, refusal, ended}
+use Rattle.book.specs.Book.{Book, isNil, lastOf, opening, stands, opens, within, Fault, numberOf, fault, add, addLine, BookResult, contents, refusal, ended}
 use Rattle.book.specs.declared.due.Due.{Due}
 use Rattle.book.specs.declared.state.State.{State}
 use Rattle.book.specs.declared.state.Taken.{Taken}
@@ -23,7 +23,7 @@ use Rattle.book.specs.declared.check.Checked.the-variants.{Good, Refused
 
 -- document 01's result for each case of the answer
 abbrev pub resultOf : Checked → BookResult
-resultOf (Good r n h) = contents r n h
+resultOf (Good r n h m c) = contents r n h m c
 resultOf (Refused n k) = refusal n k
 
 -- a text that is no longer than a book and ends where a line ends
@@ -61,6 +61,8 @@ pub record HoldsBook (b : Book) (s : State) : Type 0 where
   pub begun : isNil (b .due) ≡ false → 1 ≤ length (b .counts)
   pub stepping : s .stepping ≡ not (isNil (b .steps))
   pub head : s .head ≡ b .head
+  pub slots : s .slots ≡ length (b .names)
+  pub states : s .states ≡ b .states
 
 -- ---- the tests on a line by its sort: what each says of the books that the state stands for, and of the state
 -- a node stands inside a rule
@@ -68,6 +70,8 @@ abbrev pub Inside : State → Sort → Type 0
 Inside s sort.Rule = Unit
 Inside s sort.Node = 1 ≤ s .depth
 Inside s sort.Step = Unit
+Inside s sort.States = Unit
+Inside s sort.Slot = Unit
 
 pub record NodeRoom (s : State) : Type 0 where
   pub own : s .own < ruleNodes
@@ -78,10 +82,26 @@ abbrev pub Room : State → Sort → Type 0
 Room s sort.Rule = s .rules < bookRules
 Room s sort.Node = NodeRoom s
 Room s sort.Step = Unit
+Room s sort.States = Unit
+Room s sort.Slot = Unit
+
+abbrev pub SlotRoom : State → Sort → Type 0
+SlotRoom s sort.Rule = Unit
+SlotRoom s sort.Node = Unit
+SlotRoom s sort.Step = Unit
+SlotRoom s sort.States = Unit
+SlotRoom s sort.Slot = s .slots < bookSlots
+
+pub record StillOpening (s : State) (r : Bool) : Type 0 where
+  pub is : (b : Book) → HoldsBook b s → r ≡ opening b
 
 pub record MayStand (s : State) (o : Sort) (r : Bool) : Type 0 where
   pub is : (b : Book) → HoldsBook b s → r ≡ stands b o
   pub inside : r ≡ true → Inside s o
+
+pub record Opens (s : State) (o : Sort) (r : Bool) : Type 0 where
+  pub is : (b : Book) → HoldsBook b s → r ≡ opens b o
+  pub room : r ≡ true → SlotRoom s o
 
 pub record Within (s : State) (o : Sort) (r : Bool) : Type 0 where
   pub is : (b : Book) → HoldsBook b s → r ≡ within b o
@@ -93,6 +113,7 @@ pub record Addable (s : State) (c : code.Content.Content) (n : ℕ) : Type 0 whe
   pub small : Small (s .depth) (s .bits)
   pub inside : Inside s (sortIn c)
   pub room : Room s (sortIn c)
+  pub slots : SlotRoom s (sortIn c)
 
 pub record Adds (s : State) (c : code.Content.Content) (n : ℕ) (r : State) : Type 0 where
   pub is : (t : List ℕ) (b : Book) → HoldsBook b s → HoldsBook (add n b (held t c)) r
@@ -104,3 +125,7 @@ Agrees n b l (some f) r = r ≡ Faulty (numberOf f)
 
 pub record TakesLine (s : State) (l : code.Line.Line) (n : ℕ) (r : Taken) : Type 0 where
   pub is : (t : List ℕ) (b : Book) → HoldsBook b s → Agrees n b (means t l) (fault b (means t l)) r
+
+-- .. of a line that is right
+abbrev pub TakesContent : State → code.Content.Content → ℕ → Taken → Type 0
+TakesContent s c n r = TakesLine s (code.Line.the-variants.Right c) n r

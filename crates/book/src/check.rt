@@ -1,4 +1,5 @@
 // The check over a book's bytes: its refusal with the line, or how much it holds.
+use crate::state::States;
 use crate::state::Taken;
 use crate::state::start;
 use crate::state::take;
@@ -12,12 +13,14 @@ ghost use Rattle.line.specs.Text.{lines};
 ghost use Rattle.book.specs.Book.{empty, readOn, read, bookResult, ended};
 ghost use Rattle.book.specs.Checked.{resultOf, Lined};
 
-// `head` is the number of bytes before the step lines.
+// `head` is the number of bytes before the step lines; `slots` counts the slots.
 pub enum Checked {
     Good {
         rules: usize,
         nodes: usize,
         head: usize,
+        slots: usize,
+        states: States,
     },
     Refused {
         number: u8,
@@ -50,10 +53,13 @@ fn check_lines(text: &[u8]) -> Checked
     if 0 < s.depth {
         return Checked::Refused { number: 10, line };
     }
+    let states = s.states;
     Checked::Good {
         rules: s.rules,
         nodes: s.nodes,
         head: s.head,
+        slots: s.slots,
+        states,
     }
 }
 

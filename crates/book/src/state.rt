@@ -7,18 +7,38 @@ use line::line::flaw_number;
 use line::line::sort_of;
 use terms::limit::BOOK_NODES;
 use terms::limit::BOOK_RULES;
+use terms::limit::BOOK_SLOTS;
 use terms::limit::DEEPEST;
 use terms::limit::RULE_NODES;
 ghost use Prim.Native.Nat.{_+_, _<_, _^_};
-ghost use Rattle.book.specs.Book.{empty};
-ghost use Rattle.book.specs.Checked.{Small, HoldsBook, MayStand, Within, Addable, Adds, TakesLine};
+ghost use mathlib.Core.Path.{_≡_};
+ghost use Rattle.book.specs.Book.{empty, countIn};
+ghost use Rattle.book.specs.Checked.{Small, HoldsBook, StillOpening, MayStand, Opens, Within, Addable, Adds, TakesContent, TakesLine};
 
 // Document 01's numbers of the faults that are no field's.
 const WORD: u8 = 5;
 
 const PLACE: u8 = 6;
 
+const UNOPENED: u8 = 25;
+
 const LIMIT: u8 = 9;
+
+// The count of states, or that no `states` line stood.
+pub enum States {
+    Absent,
+    Stood(u64),
+}
+
+// How many states there are.
+pub fn state_count(s: States) -> u64
+    ensures { λ r. ⌜ r ≡ countIn s ⌝ }
+{
+    match s {
+        States::Absent => 0,
+        States::Stood(c) => c,
+    }
+}
 
 pub struct State {
     pub rules: usize,
@@ -28,6 +48,8 @@ pub struct State {
     pub bits: u64,
     pub stepping: bool,
     pub head: usize,
+    pub slots: usize,
+    pub states: States,
 }
 
 // The next state, or the refusal's number.
@@ -47,7 +69,19 @@ pub fn start() -> State
         bits: 0,
         stepping: false,
         head: 0,
+        slots: 0,
+        states: States::Absent,
     }
+}
+
+// Whether no rule and no step has been read.
+fn opening(s: State) -> bool
+    ensures { λ r. ⌜ StillOpening s r ⌝ }
+{
+    if s.stepping {
+        return false;
+    }
+    s.rules == 0
 }
 
 // Whether a line of the sort may stand behind the lines read.
@@ -63,6 +97,21 @@ fn stands(s: State, sort: Sort) -> bool
         }
         Sort::Node => 0 < s.depth,
         Sort::Step => s.depth == 0,
+        Sort::States => opening(s),
+        Sort::Slot => opening(s),
+    }
+}
+
+// Whether an opening line of the sort is in its order: `states` first, and 32 slots at most.
+fn opens(s: State, sort: Sort) -> bool
+    ensures { λ r. ⌜ Opens s sort r ⌝ }
+{
+    match sort {
+        Sort::Rule => true,
+        Sort::Node => true,
+        Sort::Step => true,
+        Sort::States => s.head == 0,
+        Sort::Slot => s.slots < BOOK_SLOTS,
     }
 }
 
@@ -82,6 +131,8 @@ fn within(s: State, sort: Sort) -> bool
             s.depth <= DEEPEST
         }
         Sort::Step => true,
+        Sort::States => true,
+        Sort::Slot => true,
     }
 }
 
@@ -90,6 +141,7 @@ fn add(s: State, c: Content, n: usize) -> State
     requires { ⌜ Addable s c n ⌝ }
     ensures { λ r. ⌜ Adds s c n r ⌝ }
 {
+    let states = s.states;
     match c {
         Content::Rule {
             start: _,
@@ -103,6 +155,8 @@ fn add(s: State, c: Content, n: usize) -> State
             bits: 0,
             stepping: s.stepping,
             head: s.head + n,
+            slots: s.slots,
+            states,
         },
         Content::Node { op, num: _ } => {
             let due = operands(op, s.depth, s.bits);
@@ -114,6 +168,8 @@ fn add(s: State, c: Content, n: usize) -> State
                 bits: due.bits,
                 stepping: s.stepping,
                 head: s.head + n,
+                slots: s.slots,
+                states,
             }
         }
         Content::Step { step: _, truths: _ } => State {
@@ -124,11 +180,57 @@ fn add(s: State, c: Content, n: usize) -> State
             bits: s.bits,
             stepping: true,
             head: s.head,
+            slots: s.slots,
+            states,
+        },
+        Content::States { count } => State {
+            rules: s.rules,
+            nodes: s.nodes,
+            own: s.own,
+            depth: s.depth,
+            bits: s.bits,
+            stepping: s.stepping,
+            head: s.head + n,
+            slots: s.slots,
+            states: States::Stood(count),
+        },
+        Content::Slot {
+            start: _,
+            len: _,
+            width: _,
+        } => State {
+            rules: s.rules,
+            nodes: s.nodes,
+            own: s.own,
+            depth: s.depth,
+            bits: s.bits,
+            stepping: s.stepping,
+            head: s.head + n,
+            slots: s.slots + 1,
+            states,
         },
     }
 }
 
-// A line of n bytes, its LF counted: its place, what is wrong about it, the limits, in this order.
+// The content of a line of n bytes, its LF counted: its place, its order among the opening lines, the limits, in this order.
+fn take_content(s: State, c: Content, n: usize) -> Taken
+    requires { ⌜ (s .head + n < 2 ^ 63) × Small (s .depth) (s .bits) ⌝ }
+    ensures { λ r. ⌜ TakesContent s c n r ⌝ }
+{
+    let sort = sort_of(c);
+    if stands(s, sort) {
+        if opens(s, sort) {
+            if within(s, sort) {
+                return Taken::Next(add(s, c, n));
+            }
+            return Taken::Faulty(LIMIT);
+        }
+        return Taken::Faulty(UNOPENED);
+    }
+    Taken::Faulty(PLACE)
+}
+
+// A line of n bytes, its LF counted: its place, its order among the opening lines, what is wrong about it, the limits, in this order.
 pub(crate) fn take(s: State, l: Line, n: usize) -> Taken
     requires { ⌜ (s .head + n < 2 ^ 63) × Small (s .depth) (s .bits) ⌝ }
     ensures { λ r. ⌜ TakesLine s l n r ⌝ }
@@ -137,19 +239,13 @@ pub(crate) fn take(s: State, l: Line, n: usize) -> Taken
         Line::Bad => Taken::Faulty(WORD),
         Line::Wrong { sort, flaw } => {
             if stands(s, sort) {
-                return Taken::Faulty(flaw_number(flaw));
-            }
-            Taken::Faulty(PLACE)
-        }
-        Line::Right(c) => {
-            let sort = sort_of(c);
-            if stands(s, sort) {
-                if within(s, sort) {
-                    return Taken::Next(add(s, c, n));
+                if opens(s, sort) {
+                    return Taken::Faulty(flaw_number(flaw));
                 }
-                return Taken::Faulty(LIMIT);
+                return Taken::Faulty(UNOPENED);
             }
             Taken::Faulty(PLACE)
         }
+        Line::Right(c) => take_content(s, c, n),
     }
 }

@@ -6,3 +6,5 @@ pub mod Texts
 pub mod Reading
 pub mod Trips
 pub mod RoundTrip
+pub mod AsBefore
+pub mod Openings

@@ -4,7 +4,7 @@ use mathlib.Core.Bool.{Bool, true, false, _&&_}
 use mathlib.Core.List.{List, [], _∷_, _++_, map}
 use Prim.Native.Nat.{ℕ, zero, suc, _+_, _^_, _≤_, _<_}
 use native.Mathlib.Omega.{arith}
-use borrow.Author.Tests.{lt-ltb, leb-true}
+use borrow.Author.Tests.{lt-ltb, le-leb, leb-true}
 use lib.Dec.{eqb, leb, ltb}
 use lib.ListN.{length, getD}
 use Rattle.terms.specs.Choice.{pick}
@@ -16,12 +16,12 @@ use Rattle.formula.specs.Formula.{Atom, Node, signal, var, input, output, not, 
 use Rattle.formula.specs.Table.{inWord}
 use Rattle.line.specs.Text.{parts, onto, lines, fields, eqbs}
 use Rattle.line.specs.Word.{wordOf, lookup}
-use Rattle.line.specs.Line.{rule, node, step, wrong, right, isLabel, kindByte, kindOf, ruleKind, ruleLine, atomLine, boundLine, stepLine, content, ofFields, parse}
+use Rattle.line.specs.Line.{rule, node, step, states, slot, wrong, right, isLabel, kindByte, kindOf, ruleKind, ruleLine, atomLine, boundLine, stepLine, statesLine, widthLine, slotLine, content, ofFields, parse}
 use Rattle.line.specs.declared.line.Sort.the-variants as sort
 use Rattle.line.specs.declared.line.Flaw.the-variants as flaw
 use Rattle.book.specs.Book.{StepLine}
 use Rattle.number.specs.Digits.{decimal, hexDigits}
-use Rattle.book_laws.specs.Write.{RuleText, opOf, numOf, nodeText, headText, stepText}
+use Rattle.book_laws.specs.Write.{RuleText, SlotText, opOf, numOf, nodeText, headText, stepText, slotText, SlotLimited}
 use Rattle.book_laws.proofs.Texts.{free, free-append, fields-free, parts-free, decimal-back, decimal-free, hex-back, hex-free, label-free, label-printable}
 
 -- a token of a formula within the limits
@@ -116,3 +116,29 @@ step-line s h k =
 pub step-free : (s : StepLine) → s .number < 2 ^ 63 → s .truths < 2 ^ 64 → free 10 (stepText s) ≡ true
 unfolding free
 step-free s h k = free-append 10 (decimal (s .number)) (9 ∷ hexDigits 16 (s .truths)) (decimal-free 10 (s .number) (omega arith) (omega arith)) (hex-free 10 (s .truths) (omega arith) k)
+
+-- ---- the opening lines
+abbrev pub statesText : ℕ → List ℕ
+statesText c = 115 ∷ 116 ∷ 97 ∷ 116 ∷ 101 ∷ 115 ∷ 9 ∷ decimal c
+
+pub states-line : (c : ℕ) → c < 65536 → parse (statesText c) ≡ right (states c)
+unfolding parse ofFields parts onto wordOf lookup eqbs content statesLine
+states-line c h = rw (one-field c (omega arith), decimal-back c (omega arith), lt-ltb c 65536 h) refl
+
+pub states-free : (c : ℕ) → c < 65536 → free 10 (statesText c) ≡ true
+unfolding free
+states-free c h = decimal-free 10 c (omega arith) (omega arith)
+
+pub slot-line : (s : SlotText) → SlotLimited s → parse (slotText s) ≡ right (slot (s .name) (s .width))
+unfolding parse ofFields parts onto wordOf lookup eqbs content slotLine widthLine
+slot-line s l =
+    let fs : fields (s .name ++ 9 ∷ decimal (s .width)) ≡ s .name ∷ decimal (s .width) ∷ [] =
+    parts-free 9 ([] ∷ []) (s .name) (decimal (s .width)) (label-free 9 (s .name) (omega arith) (label-printable (s .name) (l .named)))
+    ∙ ap (s .name ∷_) (one-field (s .width) (omega (arith, l .narrow))) in
+    rw (fs, l .named, decimal-back (s .width) (omega (arith, l .narrow)), le-leb (s .width) 64 (l .narrow)) refl
+
+pub slot-free : (s : SlotText) → SlotLimited s → free 10 (slotText s) ≡ true
+unfolding free
+slot-free s l =
+    free-append 10 (s .name) (9 ∷ decimal (s .width)) (label-free 10 (s .name) (omega arith) (label-printable (s .name) (l .named)))
+    (decimal-free 10 (s .width) (omega arith) (omega (arith, l .narrow)))

@@ -1,4 +1,4 @@
--- THE ROUND TRIP. A list of rules and steps within the limits, written out as lines, is a book that is accepted, and reading it gives
+-- THE ROUND TRIP. Opening lines and a list of rules and steps within the limits, written out as lines, is a book that is accepted, and reading it gives
 -- the list back. So a definition that refuses too much is shut out.
 use mathlib.Core.Path.{_≡_, refl, sym, ap, subst, _∙_}
 use mathlib.Core.Bool.{Bool, true, false}
@@ -8,7 +8,7 @@ use borrow.Author.Tests.{le-leb}
 use lib.ListN.{length}
 use Rattle.line.specs.Text.{lines}
 use Rattle.book.specs.Book.{Book, StepLine, empty, accepted, readOn, ended, read}
-use Rattle.book_laws.specs.Write.{RuleText, ruleLines, stepText, unlines, bookText, Limited, ReadBack}
+use Rattle.book_laws.specs.Write.{RuleText, OpeningText, openingLines, ruleLines, stepText, unlines, bookText, Limited, ReadBack}
 use Rattle.book_laws.proofs.Texts.{lines-unlines}
 use Rattle.book_laws.proofs.Trips.{free-book, BookRead, book-read}
 
@@ -29,14 +29,18 @@ unfolding ended unlines
 ended-unlines [] = refl
 ended-unlines (l ∷ ls) = ended-past l (unlines ls) (ended-lf (unlines ls) (ended-unlines ls))
 
-pub round-trip : (rs : List RuleText) (ss : List StepLine) → Limited rs ss → ReadBack rs ss
+pub round-trip : (o : OpeningText) (rs : List RuleText) (ss : List StepLine) → Limited o rs ss → ReadBack o rs ss
 unfolding read bookText
-round-trip rs ss l =
-    let t : BookRead rs ss = book-read rs ss (l .rules) (l .steps) (l .few) (l .nodes) in
-    let back : lines (unlines (ruleLines rs ++ map stepText ss)) ≡ ruleLines rs ++ map stepText ss = lines-unlines (ruleLines rs ++ map stepText ss) (free-book rs ss (l .rules) (l .steps)) in
+round-trip o rs ss l =
+    let all : List (List ℕ) = openingLines o ++ (ruleLines rs ++ map stepText ss) in
+    let t : BookRead o rs ss = book-read o rs ss (l .opening) (l .rules) (l .steps) (l .few) (l .nodes) in
+    let back : lines (unlines all) ≡ all = lines-unlines all (free-book o rs ss (l .opening) (l .rules) (l .steps)) in
     record {
       book = t .book;
-      is = rw (le-leb (length (unlines (ruleLines rs ++ map stepText ss))) 65535 (l .short), ended-unlines (ruleLines rs ++ map stepText ss)) (ap (readOn empty 0) back ∙ t .is);
+      is = rw (le-leb (length (unlines all)) 65535 (l .short), ended-unlines all) (ap (readOn empty 0) back ∙ t .is);
+      states = t .states;
+      names = t .names;
+      widths = t .widths;
       labels = t .labels;
       kinds = t .kinds;
       firsts = t .firsts;

@@ -16,11 +16,13 @@ use Rattle.formula.specs.Table.{nodeAt, inWord, ruleOf, Rule}
 use Rattle.formula.proofs.Trees.{run-spells, prefix-length}
 use Rattle.formula.proofs.Rules.{rule-of}
 use Rattle.line.specs.Text.{lines}
-use Rattle.line.specs.Line.{Content, rule, step, Line, right, parse}
+use Rattle.line.specs.Line.{Content, rule, step, states, slot, Line, right, parse}
 use Rattle.line.specs.Line as spec
 use Rattle.line.proofs.Sane.{Sane, NodeSane}
-use Rattle.book.specs.Book.{Book, empty, isNil, whole, headOf, lastOf, bump, spend, fault, add, addLine, Outcome, accepted, refused, readOn, read}
-use Rattle.reader.specs.BookTables.{BookTables, over, written, roomy, readInto}
+use Rattle.book.specs.Book.{Book, StepLine, empty, isNil, whole, headOf, lastOf, bump, spend, fault, add, addLine, Outcome, accepted, refused, readOn, read}
+use Rattle.book.specs.declared.state.States.{States}
+use Rattle.book.specs.declared.state.States.the-variants.{Stood}
+use Rattle.reader.specs.BookTables.{BookTables, SlotTables, over, written, roomy, roomySlots, readInto}
 use Rattle.reader.proofs.Sounds.{Passed, PassedLine, passed, sane, nodes-left, node-inside, Sound, sound-empty, sound-add}
 use Rattle.reader.proofs.Runs.{accepted-lines, accepted-inj, unless-none}
 use Rattle.book_laws.proofs.Formulas.{Formulated, Opens, opens-first, opens-done, opens-node}
@@ -259,15 +261,31 @@ node-ruled n b op v s i ok p =
       opens = subst (Opens (drop first (nodesOf c))) (sym d) w;
     })
 
+-- a line that is no rule and no node leaves the rules as they are
+others-ruled : (b : Book) (ss : List StepLine) (h : ℕ) (m : States) (ns : List (List ℕ)) (ws : List ℕ) → Ruled b → Ruled (record {
+  labels = b .labels;
+  kinds = b .kinds;
+  firsts = b .firsts;
+  counts = b .counts;
+  ops = b .ops;
+  nums = b .nums;
+  steps = ss;
+  due = b .due;
+  head = h;
+  states = m;
+  names = ns;
+  widths = ws;
+})
+others-ruled b ss h m ns ws (mathlib.Core.Logic.inl x) = mathlib.Core.Logic.inl (record { none-due = x .none-due; rules = x .rules; stacked = x .stacked })
+others-ruled b ss h m ns ws (mathlib.Core.Logic.inr x) = mathlib.Core.Logic.inr (record { some-due = x .some-due; firsts = x .firsts; counts = x .counts; first = x .first; own = x .own; firsts-is = x .firsts-is; counts-is = x .counts-is; ends = x .ends; rules = x .rules; stacked = x .stacked; opens = x .opens })
+
 ruled-by : (n : ℕ) (b : Book) (c : Content) → Sound b → Ruled b → Sane c → Passed b c → Ruled (add n b c)
 unfolding add Rattle.book.specs.Book.stands
 ruled-by n b (rule l m) s r k p = rule-ruled n b l m s (whole-nil b (Rattle.reader.proofs.Sounds.both {a = whole b} {b = isNil (b .steps)} (p .here) .0) r)
 ruled-by n b (spec.node op v) s r k p = node-ruled n b op v s (hand-in b (node-inside b op v p) r) k p
-ruled-by n b (step u w) s r k p = step-ruled b n u w r
-  where
-    step-ruled : (b : Book) (n u w : ℕ) → Ruled b → Ruled (add n b (step u w))
-    step-ruled b n u w (mathlib.Core.Logic.inl x) = mathlib.Core.Logic.inl (record { none-due = x .none-due; rules = x .rules; stacked = x .stacked })
-    step-ruled b n u w (mathlib.Core.Logic.inr x) = mathlib.Core.Logic.inr (record { some-due = x .some-due; firsts = x .firsts; counts = x .counts; first = x .first; own = x .own; firsts-is = x .firsts-is; counts-is = x .counts-is; ends = x .ends; rules = x .rules; stacked = x .stacked; opens = x .opens })
+ruled-by n b (step u w) s r k p = others-ruled b (b .steps ++ record { number = u; truths = w } ∷ []) (b .head) (b .states) (b .names) (b .widths) r
+ruled-by n b (states c) s r k p = others-ruled b (b .steps) (b .head + n) (Stood c) (b .names) (b .widths) r
+ruled-by n b (slot l w) s r k p = others-ruled b (b .steps) (b .head + n) (b .states) (b .names ++ l ∷ []) (b .widths ++ w ∷ []) r
 
 -- ---- kinds: 0 or 1
 abbrev pub Kinded : List ℕ → Type 0
@@ -283,6 +301,8 @@ unfolding add
 kinded-by n b (rule l k) s h = kinded-snoc (b .kinds) k s (h .kind)
 kinded-by n b (spec.node op v) s h = s
 kinded-by n b (step u w) s h = s
+kinded-by n b (states c) s h = s
+kinded-by n b (slot l w) s h = s
 
 -- ---- the fold
 pub record Done (c : Book) : Type 0 where
@@ -353,13 +373,14 @@ pub over-at : (xs l : List ℕ) (k : ℕ) → k < length xs → getD (over xs l)
 unfolding over
 over-at xs l k h = List·getD-append xs (drop (length xs) l) 0 k h
 
-pub into-accepted : (text : List ℕ) (t : BookTables) (b : Book) → readInto text t ≡ accepted b → (roomy t ≡ true) × (read text ≡ accepted b)
+pub into-accepted : (text : List ℕ) (t : BookTables) (u : SlotTables) (b : Book) → readInto text t u ≡ accepted b → (roomy t ≡ true) × (read text ≡ accepted b) × (roomySlots u ≡ true)
 unfolding readInto
-into-accepted text t b e = go (roomy t) e
+into-accepted text t u b e = go (roomy t) (roomySlots u) e
   where
-    go : (m : Bool) → pick m (read text) (refused 1 0) ≡ accepted b → (m ≡ true) × (read text ≡ accepted b)
-    go true e = (refl, e)
-    go false e = accepted-refused e
+    go : (m n : Bool) → pick (m && n) (read text) (refused 1 0) ≡ accepted b → (m ≡ true) × (read text ≡ accepted b) × (n ≡ true)
+    go true true e = (refl, e, refl)
+    go true false e = accepted-refused e
+    go false n e = accepted-refused e
 
 pub rule-in-tables : (b : Book) (t : BookTables) (d : Done b) (k : ℕ) (h : k < length (b .labels)) → ruleOf (written b t .ops) (written b t .nums) (getD (written b t .firsts) k 0) (getD (written b t .counts) k 0) ≡ some (formula-at b d k h)
 unfolding written over
@@ -372,7 +393,7 @@ rule-in-tables b t d k h =
     ap₂ (ruleOf ops nums) first-is count-is
     ∙ rule-of ops nums (getD (b .firsts) k 0) (getD (b .counts) k 0) (formula-at b d k h) (rule-at b d k h (drop (length (b .ops)) (t .ops)) (drop (length (b .nums)) (t .nums)))
 
-pub rules-of-book : (text : List ℕ) (t : BookTables) (b : Book) → readInto text t ≡ accepted b → (k : ℕ) → k < length (b .labels) → (f : Formula) × (ruleOf (written b t .ops) (written b t .nums) (getD (written b t .firsts) k 0) (getD (written b t .counts) k 0) ≡ some f)
-rules-of-book text t b e k h =
-    let (m, a) = into-accepted text t b e in
+pub rules-of-book : (text : List ℕ) (t : BookTables) (u : SlotTables) (b : Book) → readInto text t u ≡ accepted b → (k : ℕ) → k < length (b .labels) → (f : Formula) × (ruleOf (written b t .ops) (written b t .nums) (getD (written b t .firsts) k 0) (getD (written b t .counts) k 0) ≡ some f)
+rules-of-book text t u b e k h =
+    let (m, a, n) = into-accepted text t u b e in
     (formula-at b (accepted-done text b a) k h, rule-in-tables b t (accepted-done text b a) k h)

@@ -1,4 +1,4 @@
--- Reading the lines of a list that is written out: a node, a formula, the rules, the steps.
+-- Reading the lines of a list that is written out: the opening lines, a node, a formula, the rules, the steps.
 use mathlib.Core.Path.{_≡_, refl, sym, ap, ap₂, subst, _∙_}
 use mathlib.Core.Bool.{Bool, true, false, _&&_}
 use mathlib.Core.List.{List, [], _∷_, _++_, map, append-assoc, append-nil}
@@ -14,14 +14,16 @@ use Rattle.formula.specs.Tree.{Tree, leaf, one, two, leaf-of, one-of, two-of, u
 use Rattle.formula.specs.Formula.{Atom, Unary, Binary, Formula, Node, signal, var, input, output, not, next, always, eventually, always-for, within, and, or, implies, until}
 use Rattle.formula.specs.Table.{inWord}
 use Rattle.formula.proofs.Trees.{prefix-length}
-use Rattle.line.specs.Line.{Content, rule, step, right, parse}
+use Rattle.line.specs.Line.{Content, rule, step, states, slot, right, parse}
 use Rattle.line.specs.Line as spec
-use Rattle.book.specs.Book.{Book, StepLine, empty, isNil, whole, headOf, lastOf, bump, spend, stands, firstFault, fault, add, accepted, refused, readOn}
+use Rattle.book.specs.Book.{Book, StepLine, empty, isNil, whole, headOf, lastOf, bump, spend, opening, stands, opens, firstFault, fault, add, accepted, refused, readOn}
 use Rattle.book.specs.Book as books
+use Rattle.book.specs.declared.state.States.{States}
+use Rattle.book.specs.declared.state.States.the-variants.{Absent, Stood}
 use Rattle.book.proofs.States.{last-snoc}
-use Rattle.book_laws.specs.Write.{RuleText, opOf, numOf, nodeText, headText, stepText, ruleLines, Bounded, RuleLimited, RulesLimited, StepsLimited, nodesOf, firstsFrom, labelOf, kindOf, countOf}
+use Rattle.book_laws.specs.Write.{RuleText, SlotText, OpeningText, opOf, numOf, nodeText, headText, stepText, statesLines, slotText, openingLines, ruleLines, CountLimited, SlotsLimited, OpeningLimited, nameOf, widthOf, Bounded, RuleLimited, RulesLimited, StepsLimited, nodesOf, firstsFrom, labelOf, kindOf, countOf}
 use Rattle.book_laws.proofs.Texts.{free, AllFree}
-use Rattle.book_laws.proofs.Reading.{TokenOk, node-line, node-free, head-line, head-free, step-line, step-free}
+use Rattle.book_laws.proofs.Reading.{TokenOk, node-line, node-free, head-line, head-free, step-line, step-free, states-line, states-free, slot-line, slot-free}
 use Rattle.book_laws.proofs.RuleLaws.{bump-snoc}
 
 map-append : {A B : Type 0} (f : A → B) (x y : List A) → map f (x ++ y) ≡ map f x ++ map f y
@@ -41,8 +43,20 @@ reach-append b b₁ b₂ k k₁ k₂ x y p q = record { on = λ rest. ap (readOn
 
 -- ---- one node
 node-right : (b : Book) (op v : ℕ) → isNil (b .due) ≡ false → lastOf (b .counts) < 256 → length (b .ops) < 1024 → headOf (b .due) ≤ 64 → fault b (right (spec.node op v)) ≡ none
-unfolding fault firstFault stands books.within
+unfolding fault firstFault stands opens books.within
 node-right b op v d m n p = rw (d, lt-ltb (lastOf (b .counts)) 256 m, lt-ltb (length (b .ops)) 1024 n, le-leb (headOf (b .due)) 64 p) refl
+
+-- c has the opening lines of b
+pub record SameOpening (b c : Book) : Type 0 where
+  pub states-are : c .states ≡ b .states
+  pub names-are : c .names ≡ b .names
+  pub widths-are : c .widths ≡ b .widths
+
+opening-kept : (b : Book) → SameOpening b b
+opening-kept b = record { states-are = refl; names-are = refl; widths-are = refl }
+
+opening-then : (b c d : Book) → SameOpening b c → SameOpening c d → SameOpening b d
+opening-then b c d p q = record { states-are = q .states-are ∙ p .states-are; names-are = q .names-are ∙ p .names-are; widths-are = q .widths-are ∙ p .widths-are }
 
 -- the nodes read of the rule in hand, which had `own` before
 pub record Grown (b : Book) (cs : List ℕ) (own : ℕ) (due : List ℕ) (ts : List Node) (b′ : Book) : Type 0 where
@@ -54,6 +68,7 @@ pub record Grown (b : Book) (cs : List ℕ) (own : ℕ) (due : List ℕ) (ts : L
   pub kinds-is : b′ .kinds ≡ b .kinds
   pub firsts-is : b′ .firsts ≡ b .firsts
   pub steps-is : b′ .steps ≡ b .steps
+  pub opening-is : SameOpening b b′
 
 pub record TreeRead (b : Book) (k : ℕ) (cs : List ℕ) (own : ℕ) (due : List ℕ) (ts : List Node) : Type 0 where
   pub book : Book
@@ -76,6 +91,7 @@ node-read b k t d r cs own ok e low c few less = record {
     kinds-is = refl;
     firsts-is = refl;
     steps-is = refl;
+    opening-is = record { states-are = refl; names-are = refl; widths-are = refl };
   };
 }
 
@@ -93,6 +109,7 @@ join b k cs own due due′ t u p q = record {
     kinds-is = q .grown .kinds-is ∙ p .grown .kinds-is;
     firsts-is = q .grown .firsts-is ∙ p .grown .firsts-is;
     steps-is = q .grown .steps-is ∙ p .grown .steps-is;
+    opening-is = opening-then b (p .book) (q .book) (p .grown .opening-is) (q .grown .opening-is);
   };
 }
 
@@ -199,7 +216,7 @@ tokens-ok (two o t u) w h =
 
 -- ---- the rules
 rule-right : (b : Book) (l : List ℕ) (k : ℕ) → b .due ≡ [] → b .steps ≡ [] → length (b .labels) < 64 → fault b (right (rule l k)) ≡ none
-unfolding fault firstFault stands books.within
+unfolding fault firstFault stands opens books.within
 rule-right b l k d s m = rw (ap isNil d, ap isNil s, lt-ltb (length (b .labels)) 64 m) refl
 
 pub record RulesRead (b : Book) (k : ℕ) (rs : List RuleText) : Type 0 where
@@ -214,13 +231,14 @@ pub record RulesRead (b : Book) (k : ℕ) (rs : List RuleText) : Type 0 where
   pub counts-is : book .counts ≡ b .counts ++ map countOf rs
   pub ops-is : book .ops ≡ b .ops ++ map opOf (nodesOf rs)
   pub nums-is : book .nums ≡ b .nums ++ map numOf (nodesOf rs)
+  pub opening-is : SameOpening b book
 
 snoc-cons : {A : Type 0} (x : List A) (a : A) (y : List A) → (x ++ a ∷ []) ++ y ≡ x ++ a ∷ y
 snoc-cons x a y = append-assoc x (a ∷ []) y
 
 rules-read : (rs : List RuleText) (b : Book) (k : ℕ) → b .due ≡ [] → b .steps ≡ [] → RulesLimited rs → length (b .labels) + length rs ≤ 64 → length (b .ops) + length (nodesOf rs) ≤ 1024 → RulesRead b k rs
 unfolding ruleLines nodesOf firstsFrom readOn add
-rules-read [] b k d s l m n = record { book = b; line = k; reach = record { on = λ rest. refl }; due-is = d; steps-is = s; labels-is = sym (append-nil (b .labels)); kinds-is = sym (append-nil (b .kinds)); firsts-is = sym (append-nil (b .firsts)); counts-is = sym (append-nil (b .counts)); ops-is = sym (append-nil (b .ops)); nums-is = sym (append-nil (b .nums)) }
+rules-read [] b k d s l m n = record { book = b; line = k; reach = record { on = λ rest. refl }; due-is = d; steps-is = s; labels-is = sym (append-nil (b .labels)); kinds-is = sym (append-nil (b .kinds)); firsts-is = sym (append-nil (b .firsts)); counts-is = sym (append-nil (b .counts)); ops-is = sym (append-nil (b .ops)); nums-is = sym (append-nil (b .nums)); opening-is = opening-kept b }
 rules-read (r ∷ rs) b k d s l m n = one-rule r rs b k d s (l .0) m n (λ (c : Book) (j : ℕ) (d′ : c .due ≡ []) (s′ : c .steps ≡ []) (m′ : length (c .labels) + length rs ≤ 64) (n′ : length (c .ops) + length (nodesOf rs) ≤ 1024). rules-read rs c j d′ s′ (l .1) m′ n′)
   where
     one-rule : (r : RuleText) (rs : List RuleText) (b : Book) (k : ℕ) → b .due ≡ [] → b .steps ≡ [] → RuleLimited r → length (b .labels) + suc (length rs) ≤ 64 → length (b .ops) + length (prefix (r .formula) ++ nodesOf rs) ≤ 1024 → ((c : Book) (j : ℕ) → c .due ≡ [] → c .steps ≡ [] → length (c .labels) + length rs ≤ 64 → length (c .ops) + length (nodesOf rs) ≤ 1024 → RulesRead c j rs) → RulesRead b k (r ∷ rs)
@@ -249,11 +267,12 @@ rules-read (r ∷ rs) b k d s l m n = one-rule r rs b k d s (l .0) m n (λ (c : 
           counts-is = q .counts-is ∙ ap (λ (x : List ℕ). x ++ map countOf rs) (g .counts-is ∙ ap (λ (x : ℕ). b .counts ++ x ∷ []) counted) ∙ snoc-cons (b .counts) (size (r .formula)) (map countOf rs);
           ops-is = q .ops-is ∙ ap (λ (x : List ℕ). x ++ map opOf (nodesOf rs)) (g .ops-is) ∙ append-assoc (b .ops) (map opOf ts) (map opOf (nodesOf rs)) ∙ ap (λ (x : List ℕ). b .ops ++ x) (sym (map-append opOf ts (nodesOf rs)));
           nums-is = q .nums-is ∙ ap (λ (x : List ℕ). x ++ map numOf (nodesOf rs)) (g .nums-is) ∙ append-assoc (b .nums) (map numOf ts) (map numOf (nodesOf rs)) ∙ ap (λ (x : List ℕ). b .nums ++ x) (sym (map-append numOf ts (nodesOf rs)));
+          opening-is = opening-then b c (q .book) (record { states-are = g .opening-is .states-are; names-are = g .opening-is .names-are; widths-are = g .opening-is .widths-are }) (q .opening-is);
         }
 
 -- ---- the steps
 step-right : (b : Book) (u w : ℕ) → b .due ≡ [] → fault b (right (step u w)) ≡ none
-unfolding fault firstFault stands books.within
+unfolding fault firstFault stands opens books.within
 step-right b u w d = rw (ap isNil d) refl
 
 pub record StepsRead (b : Book) (k : ℕ) (ss : List StepLine) : Type 0 where
@@ -268,10 +287,11 @@ pub record StepsRead (b : Book) (k : ℕ) (ss : List StepLine) : Type 0 where
   pub counts-is : book .counts ≡ b .counts
   pub ops-is : book .ops ≡ b .ops
   pub nums-is : book .nums ≡ b .nums
+  pub opening-is : SameOpening b book
 
 steps-read : (ss : List StepLine) (b : Book) (k : ℕ) → b .due ≡ [] → StepsLimited ss → StepsRead b k ss
 unfolding add readOn
-steps-read [] b k d l = record { book = b; line = k; reach = record { on = λ rest. refl }; due-is = d; steps-is = sym (append-nil (b .steps)); labels-is = refl; kinds-is = refl; firsts-is = refl; counts-is = refl; ops-is = refl; nums-is = refl }
+steps-read [] b k d l = record { book = b; line = k; reach = record { on = λ rest. refl }; due-is = d; steps-is = sym (append-nil (b .steps)); labels-is = refl; kinds-is = refl; firsts-is = refl; counts-is = refl; ops-is = refl; nums-is = refl; opening-is = opening-kept b }
 steps-read (x ∷ ss) b k d l =
     let b₁ : Book = add (length (stepText x) + 1) b (step (x .number) (x .truths)) in
     let h : Reach b k (stepText x ∷ []) b₁ (k + 1) = reach-one b k (stepText x) (step (x .number) (x .truths)) (step-line x (l .0) (l .1)) (step-right b (x .number) (x .truths) d) in
@@ -288,6 +308,7 @@ steps-read (x ∷ ss) b k d l =
       counts-is = q .counts-is;
       ops-is = q .ops-is;
       nums-is = q .nums-is;
+      opening-is = record { states-are = q .opening-is .states-are; names-are = q .opening-is .names-are; widths-are = q .opening-is .widths-are };
     }
 
 -- ---- no line holds an LF
@@ -307,13 +328,112 @@ free-steps : (ss : List StepLine) → StepsLimited ss → AllFree (map stepText 
 free-steps [] l = tt
 free-steps (s ∷ ss) l = (step-free s (l .0) (l .1), free-steps ss (l .2))
 
-pub free-book : (rs : List RuleText) (ss : List StepLine) → RulesLimited rs → StepsLimited ss → AllFree (ruleLines rs ++ map stepText ss)
-free-book rs ss l m = free-rules rs (map stepText ss) l (free-steps ss m)
+free-slots : (ss : List SlotText) (ls : List (List ℕ)) → SlotsLimited ss → AllFree ls → AllFree (map slotText ss ++ ls)
+free-slots [] ls l f = f
+free-slots (s ∷ ss) ls l f = (slot-free s (l .0), free-slots ss ls (l .1) f)
+
+free-opening : (o : OpeningText) (ls : List (List ℕ)) → OpeningLimited o → AllFree ls → AllFree (openingLines o ++ ls)
+unfolding openingLines
+free-opening o ls l f = go (o .states) (l .count)
+  where
+    go : (c : States) → CountLimited c → AllFree ((statesLines c ++ map slotText (o .slots)) ++ ls)
+    go Absent h = free-slots (o .slots) ls (l .slots) f
+    go (Stood c) h = (states-free c h, free-slots (o .slots) ls (l .slots) f)
+
+pub free-book : (o : OpeningText) (rs : List RuleText) (ss : List StepLine) → OpeningLimited o → RulesLimited rs → StepsLimited ss
+    → AllFree (openingLines o ++ (ruleLines rs ++ map stepText ss))
+free-book o rs ss k l m = free-opening o (ruleLines rs ++ map stepText ss) k (free-rules rs (map stepText ss) l (free-steps ss m))
+
+-- ---- the opening lines
+-- only slots have been added, and no rule or step stands
+pub record Opened (c : States) (names : List (List ℕ)) (widths : List ℕ) (b : Book) : Type 0 where
+  pub labels-is : b .labels ≡ []
+  pub kinds-is : b .kinds ≡ []
+  pub firsts-is : b .firsts ≡ []
+  pub counts-is : b .counts ≡ []
+  pub ops-is : b .ops ≡ []
+  pub nums-is : b .nums ≡ []
+  pub steps-is : b .steps ≡ []
+  pub due-is : b .due ≡ []
+  pub states-is : b .states ≡ c
+  pub names-is : b .names ≡ names
+  pub widths-is : b .widths ≡ widths
+
+pub record OpeningRead (b : Book) (k : ℕ) (c : States) (names : List (List ℕ)) (widths : List ℕ) (ls : List (List ℕ)) : Type 0 where
+  pub book : Book
+  pub line : ℕ
+  pub reach : Reach b k ls book line
+  pub opened : Opened c names widths book
+
+slot-right : (b : Book) (l : List ℕ) (w : ℕ) → b .labels ≡ [] → b .steps ≡ [] → length (b .names) < 32 → fault b (right (slot l w)) ≡ none
+unfolding fault firstFault stands opening opens books.within
+slot-right b l w p q m = rw (ap isNil p, ap isNil q, lt-ltb (length (b .names)) 32 m) refl
+
+slots-read : (ss : List SlotText) (b : Book) (k : ℕ) (c : States) (names : List (List ℕ)) (widths : List ℕ) → Opened c names widths b → SlotsLimited ss
+    → length names + length ss ≤ 32 → OpeningRead b k c (names ++ map nameOf ss) (widths ++ map widthOf ss) (map slotText ss)
+unfolding add
+slots-read [] b k c names widths p l m = record {
+  book = b;
+  line = k;
+  reach = record { on = λ rest. refl };
+  opened = subst (λ (x : List (List ℕ)). Opened c x (widths ++ []) b) (sym (append-nil names)) (subst (λ (x : List ℕ). Opened c names x b) (sym (append-nil widths)) p);
+}
+slots-read (s ∷ ss) b k c names widths p l m =
+    let b₁ : Book = add (length (slotText s) + 1) b (slot (s .name) (s .width)) in
+    let h : Reach b k (slotText s ∷ []) b₁ (k + 1) =
+    reach-one b k (slotText s) (slot (s .name) (s .width)) (slot-line s (l .0)) (slot-right b (s .name) (s .width) (p .labels-is) (p .steps-is) (omega (arith, ap length (p .names-is)))) in
+    let p₁ : Opened c (names ++ s .name ∷ []) (widths ++ s .width ∷ []) b₁ = record {
+      labels-is = p .labels-is;
+      kinds-is = p .kinds-is;
+      firsts-is = p .firsts-is;
+      counts-is = p .counts-is;
+      ops-is = p .ops-is;
+      nums-is = p .nums-is;
+      steps-is = p .steps-is;
+      due-is = p .due-is;
+      states-is = p .states-is;
+      names-is = ap (λ (x : List (List ℕ)). x ++ s .name ∷ []) (p .names-is);
+      widths-is = ap (λ (x : List ℕ). x ++ s .width ∷ []) (p .widths-is);
+    } in
+    let q : OpeningRead b₁ (k + 1) c ((names ++ s .name ∷ []) ++ map nameOf ss) ((widths ++ s .width ∷ []) ++ map widthOf ss) (map slotText ss) =
+    slots-read ss b₁ (k + 1) c (names ++ s .name ∷ []) (widths ++ s .width ∷ []) p₁ (l .1) (omega (arith, length-append names (s .name ∷ []))) in
+    record {
+      book = q .book;
+      line = q .line;
+      reach = reach-append b b₁ (q .book) k (k + 1) (q .line) (slotText s ∷ []) (map slotText ss) h (q .reach);
+      opened =
+          subst (λ (x : List (List ℕ)). Opened c x (widths ++ s .width ∷ map widthOf ss) (q .book)) (snoc-cons names (s .name) (map nameOf ss))
+          (subst (λ (x : List ℕ). Opened c ((names ++ s .name ∷ []) ++ map nameOf ss) x (q .book)) (snoc-cons widths (s .width) (map widthOf ss)) (q .opened));
+    }
+
+opened-empty : Opened Absent [] [] empty
+opened-empty = record { labels-is = refl; kinds-is = refl; firsts-is = refl; counts-is = refl; ops-is = refl; nums-is = refl; steps-is = refl; due-is = refl; states-is = refl; names-is = refl; widths-is = refl }
+
+states-right : (c : ℕ) → fault empty (right (states c)) ≡ none
+unfolding fault firstFault stands opening opens books.within
+states-right c = refl
+
+opening-read : (o : OpeningText) → OpeningLimited o → OpeningRead empty 0 (o .states) (map nameOf (o .slots)) (map widthOf (o .slots)) (openingLines o)
+unfolding openingLines add
+opening-read o l = go (o .states) (l .count)
+  where
+    go : (c : States) → CountLimited c → OpeningRead empty 0 c (map nameOf (o .slots)) (map widthOf (o .slots)) (statesLines c ++ map slotText (o .slots))
+    go Absent h = slots-read (o .slots) empty 0 Absent [] [] opened-empty (l .slots) (omega (arith, l .few))
+    go (Stood c) h =
+        let t : List ℕ = 115 ∷ 116 ∷ 97 ∷ 116 ∷ 101 ∷ 115 ∷ 9 ∷ Rattle.number.specs.Digits.decimal c in
+        let b₁ : Book = add (length t + 1) empty (states c) in
+        let r : Reach empty 0 (t ∷ []) b₁ 1 = reach-one empty 0 t (states c) (states-line c h) (states-right c) in
+        let p : Opened (Stood c) [] [] b₁ = record { labels-is = refl; kinds-is = refl; firsts-is = refl; counts-is = refl; ops-is = refl; nums-is = refl; steps-is = refl; due-is = refl; states-is = refl; names-is = refl; widths-is = refl } in
+        let q : OpeningRead b₁ 1 (Stood c) (map nameOf (o .slots)) (map widthOf (o .slots)) (map slotText (o .slots)) = slots-read (o .slots) b₁ 1 (Stood c) [] [] p (l .slots) (omega (arith, l .few)) in
+        record { book = q .book; line = q .line; reach = reach-append empty b₁ (q .book) 0 1 (q .line) (t ∷ []) (map slotText (o .slots)) r (q .reach); opened = q .opened }
 
 -- ---- the whole
-pub record BookRead (rs : List RuleText) (ss : List StepLine) : Type 0 where
+pub record BookRead (o : OpeningText) (rs : List RuleText) (ss : List StepLine) : Type 0 where
   pub book : Book
-  pub is : readOn empty 0 (ruleLines rs ++ map stepText ss) ≡ accepted book
+  pub is : readOn empty 0 (openingLines o ++ (ruleLines rs ++ map stepText ss)) ≡ accepted book
+  pub states : book .states ≡ o .states
+  pub names : book .names ≡ map nameOf (o .slots)
+  pub widths : book .widths ≡ map widthOf (o .slots)
   pub labels : book .labels ≡ map labelOf rs
   pub kinds : book .kinds ≡ map kindOf rs
   pub firsts : book .firsts ≡ firstsFrom 0 rs
@@ -322,20 +442,27 @@ pub record BookRead (rs : List RuleText) (ss : List StepLine) : Type 0 where
   pub nums : book .nums ≡ map numOf (nodesOf rs)
   pub steps : book .steps ≡ ss
 
-pub book-read : (rs : List RuleText) (ss : List StepLine) → RulesLimited rs → StepsLimited ss → length rs ≤ 64 → length (nodesOf rs) ≤ 1024 → BookRead rs ss
+pub book-read : (o : OpeningText) (rs : List RuleText) (ss : List StepLine) → OpeningLimited o → RulesLimited rs → StepsLimited ss
+    → length rs ≤ 64 → length (nodesOf rs) ≤ 1024 → BookRead o rs ss
 unfolding readOn
-book-read rs ss l m few nodes =
-    let p : RulesRead empty 0 rs = rules-read rs empty 0 refl refl l (omega arith) (omega arith) in
+book-read o rs ss h l m few nodes =
+    let u : OpeningRead empty 0 (o .states) (map nameOf (o .slots)) (map widthOf (o .slots)) (openingLines o) = opening-read o h in
+    let v : Opened (o .states) (map nameOf (o .slots)) (map widthOf (o .slots)) (u .book) = u .opened in
+    let p : RulesRead (u .book) (u .line) rs = rules-read rs (u .book) (u .line) (v .due-is) (v .steps-is) l (omega (arith, ap length (v .labels-is))) (omega (arith, ap length (v .ops-is))) in
     let q : StepsRead (p .book) (p .line) ss = steps-read ss (p .book) (p .line) (p .due-is) m in
     let end : readOn (q .book) (q .line) [] ≡ accepted (q .book) = ap (λ (t : Bool). pick t (accepted (q .book)) (refused 10 (q .line))) (ap isNil (q .due-is)) in
+    let z : SameOpening (u .book) (q .book) = opening-then (u .book) (p .book) (q .book) (p .opening-is) (q .opening-is) in
     record {
       book = q .book;
-      is = p .reach .on (map stepText ss) ∙ ap (readOn (p .book) (p .line)) (sym (append-nil (map stepText ss))) ∙ q .reach .on [] ∙ end;
-      labels = q .labels-is ∙ p .labels-is;
-      kinds = q .kinds-is ∙ p .kinds-is;
-      firsts = q .firsts-is ∙ p .firsts-is;
-      counts = q .counts-is ∙ p .counts-is;
-      ops = q .ops-is ∙ p .ops-is;
-      nums = q .nums-is ∙ p .nums-is;
+      is = u .reach .on (ruleLines rs ++ map stepText ss) ∙ p .reach .on (map stepText ss) ∙ ap (readOn (p .book) (p .line)) (sym (append-nil (map stepText ss))) ∙ q .reach .on [] ∙ end;
+      states = z .states-are ∙ v .states-is;
+      names = z .names-are ∙ v .names-is;
+      widths = z .widths-are ∙ v .widths-is;
+      labels = q .labels-is ∙ p .labels-is ∙ ap (λ (x : List (List ℕ)). x ++ map labelOf rs) (v .labels-is);
+      kinds = q .kinds-is ∙ p .kinds-is ∙ ap (λ (x : List ℕ). x ++ map kindOf rs) (v .kinds-is);
+      firsts = q .firsts-is ∙ p .firsts-is ∙ ap₂ (λ (x y : List ℕ). x ++ firstsFrom (length y) rs) (v .firsts-is) (v .ops-is);
+      counts = q .counts-is ∙ p .counts-is ∙ ap (λ (x : List ℕ). x ++ map countOf rs) (v .counts-is);
+      ops = q .ops-is ∙ p .ops-is ∙ ap (λ (x : List ℕ). x ++ map opOf (nodesOf rs)) (v .ops-is);
+      nums = q .nums-is ∙ p .nums-is ∙ ap (λ (x : List ℕ). x ++ map numOf (nodesOf rs)) (v .nums-is);
       steps = q .steps-is ∙ ap (λ (x : List StepLine). x ++ ss) (p .steps-is);
     }

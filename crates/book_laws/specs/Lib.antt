@@ -1,2 +1,3 @@
 -- The terms of the theorems about books.
 pub mod Write
+pub mod Before

@@ -1,5 +1,5 @@
--- Document 01's book, from the other side: a rule list and steps written out as lines.
---     bookText    the text of a list of rules and of steps
+-- The book of documents 01 and 02, from the other side: opening lines, a rule list and steps written out as lines.
+--     bookText    the text of opening lines, of a list of rules and of steps
 --     Limited     the limits within which such a list is a book
 --     ReadBack    what reading gives back
 use mathlib.Core.Path.{_≡_}
@@ -7,19 +7,30 @@ use mathlib.Core.Bool.{Bool, true, false, _&&_}
 use mathlib.Core.List.{List, [], _∷_, _++_, map}
 use Prim.Native.Nat.{ℕ, zero, suc, _+_, _^_, _≤_, _<_}
 use lib.ListN.{length}
-use Rattle.terms.specs.Limits.{bookBytes, bookNodes, bookRules, deepest, ruleNodes}
+use Rattle.terms.specs.Limits.{bookBytes, bookNodes, bookRules, bookSlots, deepest, ruleNodes, slotMost, stateCounts}
 use Rattle.number.specs.Digits.{decimal, hexDigits}
 use Rattle.formula.specs.Tree.{leaf-of, one-of, two-of, unknown, prefix, size, depth, all}
 use Rattle.formula.specs.Formula.{Formula, Node, var, input, output, not, next, always, eventually, always-for, within, and, or, implies, until}
 use Rattle.formula.specs.Table.{inWord}
 use Rattle.line.specs.Line.{isLabel, kindByte}
 use Rattle.book.specs.Book.{Book, StepLine, accepted, read}
+use Rattle.book.specs.declared.state.States.{States}
+use Rattle.book.specs.declared.state.States.the-variants.{Absent, Stood}
 
 -- a rule of the list: its label, its kind (0 property, 1 assumption) and its formula
 pub record RuleText : Type 0 where
   pub label : List ℕ
   pub kind : ℕ
   pub formula : Formula
+
+-- a slot, and the opening lines of a book
+pub record SlotText : Type 0 where
+  pub name : List ℕ
+  pub width : ℕ
+
+pub record OpeningText : Type 0 where
+  pub states : States
+  pub slots : List SlotText
 
 -- ---- lines
 -- a node's number in a formula table, the number beside it, and its line: `var`, `in`, `out`, `not`, `next`, `always`, `eventually`,
@@ -77,6 +88,17 @@ headText r = 114 ∷ 117 ∷ 108 ∷ 101 ∷ 9 ∷ (r .label ++ 9 ∷ kindByte (
 abbrev pub stepText : StepLine → List ℕ
 stepText s = 115 ∷ 116 ∷ 101 ∷ 112 ∷ 9 ∷ (decimal (s .number) ++ 9 ∷ hexDigits 16 (s .truths))
 
+-- `states` and its count, if it is to stand; `slot`, its name, its width
+abbrev pub statesLines : States → List (List ℕ)
+statesLines Absent = []
+statesLines (Stood c) = (115 ∷ 116 ∷ 97 ∷ 116 ∷ 101 ∷ 115 ∷ 9 ∷ decimal c) ∷ []
+
+abbrev pub slotText : SlotText → List ℕ
+slotText s = 115 ∷ 108 ∷ 111 ∷ 116 ∷ 9 ∷ (s .name ++ 9 ∷ decimal (s .width))
+
+unfoldable pub openingLines : OpeningText → List (List ℕ)
+openingLines o = statesLines (o .states) ++ map slotText (o .slots)
+
 unfoldable pub ruleLines : List RuleText → List (List ℕ)
 ruleLines [] = []
 ruleLines (r ∷ rs) = headText r ∷ (map nodeText (prefix (r .formula)) ++ ruleLines rs)
@@ -86,8 +108,8 @@ unfoldable pub unlines : List (List ℕ) → List ℕ
 unlines [] = []
 unlines (l ∷ ls) = l ++ 10 ∷ unlines ls
 
-unfoldable pub bookText : List RuleText → List StepLine → List ℕ
-bookText rs ss = unlines (ruleLines rs ++ map stepText ss)
+unfoldable pub bookText : OpeningText → List RuleText → List StepLine → List ℕ
+bookText o rs ss = unlines (openingLines o ++ (ruleLines rs ++ map stepText ss))
 
 -- ---- the limits
 -- bounds fit a word
@@ -116,8 +138,26 @@ unfoldable pub nodesOf : List RuleText → List Node
 nodesOf [] = []
 nodesOf (r ∷ rs) = prefix (r .formula) ++ nodesOf rs
 
-pub record Limited (rs : List RuleText) (ss : List StepLine) : Type 0 where
-  pub short : length (bookText rs ss) ≤ bookBytes
+abbrev pub CountLimited : States → Type 0
+CountLimited Absent = Unit
+CountLimited (Stood c) = c < stateCounts
+
+pub record SlotLimited (s : SlotText) : Type 0 where
+  pub named : isLabel (s .name) ≡ true
+  pub narrow : s .width ≤ slotMost
+
+abbrev pub SlotsLimited : List SlotText → Type 0
+SlotsLimited [] = Unit
+SlotsLimited (s ∷ ss) = SlotLimited s × SlotsLimited ss
+
+pub record OpeningLimited (o : OpeningText) : Type 0 where
+  pub count : CountLimited (o .states)
+  pub few : length (o .slots) ≤ bookSlots
+  pub slots : SlotsLimited (o .slots)
+
+pub record Limited (o : OpeningText) (rs : List RuleText) (ss : List StepLine) : Type 0 where
+  pub short : length (bookText o rs ss) ≤ bookBytes
+  pub opening : OpeningLimited o
   pub few : length rs ≤ bookRules
   pub nodes : length (nodesOf rs) ≤ bookNodes
   pub rules : RulesLimited rs
@@ -137,9 +177,18 @@ labelOf r = r .label
 abbrev pub kindOf : RuleText → ℕ
 kindOf r = r .kind
 
-pub record ReadBack (rs : List RuleText) (ss : List StepLine) : Type 0 where
+abbrev pub nameOf : SlotText → List ℕ
+nameOf s = s .name
+
+abbrev pub widthOf : SlotText → ℕ
+widthOf s = s .width
+
+pub record ReadBack (o : OpeningText) (rs : List RuleText) (ss : List StepLine) : Type 0 where
   pub book : Book
-  pub is : read (bookText rs ss) ≡ accepted book
+  pub is : read (bookText o rs ss) ≡ accepted book
+  pub states : book .states ≡ o .states
+  pub names : book .names ≡ map nameOf (o .slots)
+  pub widths : book .widths ≡ map widthOf (o .slots)
   pub labels : book .labels ≡ map labelOf rs
   pub kinds : book .kinds ≡ map kindOf rs
   pub firsts : book .firsts ≡ firstsFrom 0 rs

@@ -1,5 +1,6 @@
 // Reads each stored book of data/ into tables that hold a mark at every place, and prints the answer, what the tables hold, whether every
 // place past the book keeps its mark, and the steps.
+use book::state::States;
 use libc::STDOUT_FILENO;
 use reader::read::Answer;
 use reader::read::read_book;
@@ -7,8 +8,10 @@ use reader::steps::StepRead;
 use reader::steps::next_step;
 use terms::limit::BOOK_NODES;
 use terms::limit::BOOK_RULES;
+use terms::limit::BOOK_SLOTS;
 use terms::limit::LABEL_BYTES;
 use terms::limit::LABELS_ROOM;
+use terms::limit::NAMES_ROOM;
 
 // The most places that a table here has.
 const PLACES: usize = 2050;
@@ -59,45 +62,20 @@ fn word_at(s: &[u64], i: usize) -> Cell {
     Cell::End
 }
 
-// A place of a table, the tables numbered as they are lent.
-fn cell_at(
-    labels: &[u8],
-    lens: &[usize],
-    kinds: &[u8],
-    firsts: &[usize],
-    counts: &[usize],
-    ops: &[u8],
-    nums: &[u64],
-    table: u8,
-    i: usize,
-) -> Cell {
-    match table {
-        0 => byte_at(labels, i),
-        1 => size_at(lens, i),
-        2 => byte_at(kinds, i),
-        3 => size_at(firsts, i),
-        4 => size_at(counts, i),
-        5 => byte_at(ops, i),
-        _ => word_at(nums, i),
+// A place of a table, which is the bytes, the sizes or the words by its sort.
+fn cell_at(bytes: &[u8], sizes: &[usize], words: &[u64], sort: u8, i: usize) -> Cell {
+    match sort {
+        0 => byte_at(bytes, i),
+        1 => size_at(sizes, i),
+        _ => word_at(words, i),
     }
 }
 
 // Whether every place of a table from `from` on holds its mark.
-fn kept(
-    labels: &[u8],
-    lens: &[usize],
-    kinds: &[u8],
-    firsts: &[usize],
-    counts: &[usize],
-    ops: &[u8],
-    nums: &[u64],
-    table: u8,
-    from: usize,
-    mark: u64,
-) -> bool {
+fn kept(bytes: &[u8], sizes: &[usize], words: &[u64], sort: u8, from: usize, mark: u64) -> bool {
     let mut i = from;
     while i < PLACES {
-        match cell_at(labels, lens, kinds, firsts, counts, ops, nums, table, i) {
+        match cell_at(bytes, sizes, words, sort, i) {
             Cell::End => return true,
             Cell::Holds(v) => {
                 if v != mark {
@@ -118,7 +96,19 @@ fn told(kept: bool) {
     }
 }
 
-// Whether every table keeps its marks past so many rules and nodes.
+fn bytes_told(s: &[u8], from: usize, mark: u64) {
+    told(kept(s, &[0usize; 1], &[0u64; 1], 0, from, mark));
+}
+
+fn sizes_told(s: &[usize], from: usize) {
+    told(kept(&[0u8; 1], s, &[0u64; 1], 1, from, 7));
+}
+
+fn words_told(s: &[u64], from: usize) {
+    told(kept(&[0u8; 1], &[0usize; 1], s, 2, from, 7));
+}
+
+// Whether every table keeps its marks past so many rules, nodes and slots.
 fn told_all(
     labels: &[u8],
     lens: &[usize],
@@ -127,30 +117,68 @@ fn told_all(
     counts: &[usize],
     ops: &[u8],
     nums: &[u64],
+    names: &[u8],
+    sizes: &[usize],
+    widths: &[u64],
     rules: usize,
     nodes: usize,
+    slots: usize,
 ) {
     if BOOK_RULES < rules {
         return;
     }
-    told(kept(
-        labels,
-        lens,
-        kinds,
-        firsts,
-        counts,
-        ops,
-        nums,
-        0,
-        LABEL_BYTES * rules,
-        46,
-    ));
-    told(kept(labels, lens, kinds, firsts, counts, ops, nums, 1, rules, 7));
-    told(kept(labels, lens, kinds, firsts, counts, ops, nums, 2, rules, 7));
-    told(kept(labels, lens, kinds, firsts, counts, ops, nums, 3, rules, 7));
-    told(kept(labels, lens, kinds, firsts, counts, ops, nums, 4, rules, 7));
-    told(kept(labels, lens, kinds, firsts, counts, ops, nums, 5, nodes, 7));
-    told(kept(labels, lens, kinds, firsts, counts, ops, nums, 6, nodes, 7));
+    if BOOK_SLOTS < slots {
+        return;
+    }
+    bytes_told(labels, LABEL_BYTES * rules, 46);
+    sizes_told(lens, rules);
+    bytes_told(kinds, rules, 7);
+    sizes_told(firsts, rules);
+    sizes_told(counts, rules);
+    bytes_told(ops, nodes, 7);
+    words_told(nums, nodes);
+    bytes_told(names, LABEL_BYTES * slots, 46);
+    sizes_told(sizes, slots);
+    words_told(widths, slots);
+}
+
+// The count of states, or that no `states` line stood.
+fn show_states(c: States) {
+    match c {
+        States::Absent => put(b"\t-"),
+        States::Stood(n) => show(n),
+    }
+}
+
+// One slot: its 32 bytes of name, their length and its width.
+fn show_slot(names: &[u8], sizes: &[usize], widths: &[u64], i: usize) {
+    if BOOK_SLOTS <= i {
+        return;
+    }
+    let a = LABEL_BYTES * i;
+    let e = a + LABEL_BYTES;
+    if names.len() < e {
+        return;
+    }
+    put(b"slot ");
+    put(&names[a..e]);
+    if sizes.len() <= i {
+        return;
+    }
+    show_size(sizes[i]);
+    if widths.len() <= i {
+        return;
+    }
+    show(widths[i]);
+    put(b"\n");
+}
+
+fn show_slots(names: &[u8], sizes: &[usize], widths: &[u64], n: usize) {
+    let mut i: usize = 0;
+    while i < n {
+        show_slot(names, sizes, widths, i);
+        i += 1;
+    }
 }
 
 // One rule: its 32 bytes of label, its length, kind, first place and count.
@@ -256,6 +284,9 @@ fn report(
     counts: &[usize],
     ops: &[u8],
     nums: &[u64],
+    names: &[u8],
+    sizes: &[usize],
+    widths: &[u64],
     answer: Answer,
 ) {
     match answer {
@@ -263,20 +294,53 @@ fn report(
             put(b" refused");
             show(number as u64);
             show_size(line);
-            told_all(labels, lens, kinds, firsts, counts, ops, nums, 0, 0);
+            told_all(
+                labels,
+                lens,
+                kinds,
+                firsts,
+                counts,
+                ops,
+                nums,
+                names,
+                sizes,
+                widths,
+                0,
+                0,
+                0,
+            );
             put(b"\n");
         }
         Answer::Read {
             rules,
             nodes,
             steps_at,
+            slots,
+            states,
         } => {
             put(b" read");
             show_size(rules);
             show_size(nodes);
             show_size(steps_at);
-            told_all(labels, lens, kinds, firsts, counts, ops, nums, rules, nodes);
+            show_size(slots);
+            show_states(states);
+            told_all(
+                labels,
+                lens,
+                kinds,
+                firsts,
+                counts,
+                ops,
+                nums,
+                names,
+                sizes,
+                widths,
+                rules,
+                nodes,
+                slots,
+            );
             put(b"\n");
+            show_slots(names, sizes, widths, slots);
             show_rules(labels, lens, kinds, firsts, counts, rules);
             show_nodes(ops, nums, nodes);
             show_steps(text, steps_at);
@@ -293,6 +357,9 @@ fn read_text(text: &[u8]) {
     let mut counts = [7usize; 70];
     let mut ops = [7u8; 1030];
     let mut nums = [7u64; BOOK_NODES];
+    let mut names = [46u8; 1026];
+    let mut sizes = [7usize; BOOK_SLOTS];
+    let mut widths = [7u64; 34];
     let answer = read_book(
         text,
         &mut labels,
@@ -302,6 +369,9 @@ fn read_text(text: &[u8]) {
         &mut counts,
         &mut ops,
         &mut nums,
+        &mut names,
+        &mut sizes,
+        &mut widths,
     );
     report(
         text,
@@ -312,6 +382,9 @@ fn read_text(text: &[u8]) {
         &counts,
         &ops,
         &nums,
+        &names,
+        &sizes,
+        &widths,
         answer,
     );
 }
@@ -325,6 +398,9 @@ fn read_short(text: &[u8]) {
     let mut counts = [7usize; 63];
     let mut ops = [7u8; BOOK_NODES];
     let mut nums = [7u64; BOOK_NODES];
+    let mut names = [46u8; NAMES_ROOM];
+    let mut sizes = [7usize; BOOK_SLOTS];
+    let mut widths = [7u64; BOOK_SLOTS];
     let answer = read_book(
         text,
         &mut labels,
@@ -334,6 +410,9 @@ fn read_short(text: &[u8]) {
         &mut counts,
         &mut ops,
         &mut nums,
+        &mut names,
+        &mut sizes,
+        &mut widths,
     );
     match answer {
         Answer::Refused { number, line } => {
@@ -346,6 +425,8 @@ fn read_short(text: &[u8]) {
             rules: _,
             nodes: _,
             steps_at: _,
+            slots: _,
+            states: _,
         } => put(b"short tables READ\n"),
     }
 }

@@ -8,7 +8,7 @@ use native.Mathlib.Nat.{add-mul-mod-self-left, mod-eq-of-lt, add-mul-div-left, d
 use lib.Seq.{sets}
 use Rattle.result.specs.Result.{Result, given}
 use Rattle.book.specs.Book.{BookResult, bookResult, refused}
-use Rattle.reader.specs.BookTables.{BookTables, readInto}
+use Rattle.reader.specs.BookTables.{BookTables, SlotTables, readInto}
 use Rattle.reader.specs.Answer as Reading
 use Rattle.reader.specs.Answer.{Reads}
 use Rattle.reader.specs.Steps as Steps
@@ -48,13 +48,14 @@ module _ (x : Said) (found : List ℕ) (r : ℕ) (found′ : List ℕ) (s : Says
     found-is = s .found-is ∙ ap (λ (y : Told). sets found 0 (y .numbers)) (o ∙ ap f e);
   }
 
-  pub read-told : (text : List ℕ) (t : BookTables) (a : Answer) (t′ : BookTables)
-      → Reads text t a t′
+  pub read-told : (text : List ℕ) (t : BookTables) (u : SlotTables) (a : Answer) (t′ : BookTables) (u′ : SlotTables)
+      → Reads text t u a t′ u′
       → toldBy x ≡ bookTold (Reading.resultOf a)
-      → ReadBook text t found r t′ found′
-  read-told text t a t′ d o = record {
-    says = says bookTold (Reading.resultOf a) (bookResult (readInto text t)) (d .answer) o;
+      → ReadBook text t u found r t′ u′ found′
+  read-told text t u a t′ u′ d o = record {
+    says = says bookTold (Reading.resultOf a) (bookResult (readInto text t u)) (d .answer) o;
     tables = d .tables;
+    slots = d .slots;
   }
 
   pub line-told : (text : List ℕ) (at : ℕ) (l : StepRead)
@@ -113,14 +114,14 @@ module _ (t : Lent.LentTables) (r : ℕ) where
   }
 
 -- ---- a refused book's number
-pub read-small : (text : List ℕ) (t : BookTables) (a : Answer) (t′ : BookTables) → Reads text t a t′ → SmallLine a
-read-small text t (Read r n s) t′ d = tt
-read-small text t (Refused n k) t′ d =
-    let s = refused-small text t n k (refused-inv text t t′ n k d .0) in
+pub read-small : (text : List ℕ) (t : BookTables) (u : SlotTables) (a : Answer) (t′ : BookTables) (u′ : SlotTables) → Reads text t u a t′ u′ → SmallLine a
+read-small text t u (Read r n s m c) t′ u′ d = tt
+read-small text t u (Refused n k) t′ u′ d =
+    let s = refused-small text t u n k (refused-inv text t u t′ u′ n k d .0) in
     (s .number, s .line)
 
 -- from the number of a refused book C has document 01's number and the line again
-pub unpacked : (n k : ℕ) → n ≤ 10 → ((n + 256 * k) % 256 ≡ n) × ((n + 256 * k) / 256 ≡ k)
+pub unpacked : (n k : ℕ) → n ≤ 25 → ((n + 256 * k) % 256 ≡ n) × ((n + 256 * k) / 256 ≡ k)
 unpacked n k h =
     let low : n < 256 = omega arith in
     let none : n / 256 ≡ 0 = div-eq-of-lt low in

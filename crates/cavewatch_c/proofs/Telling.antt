@@ -1,13 +1,16 @@
 -- What each answer is said as, from which answer it is.
 use mathlib.Core.Bool.{Bool, true, false, cond}
 use mathlib.Core.List.{List, [], _∷_}
-use mathlib.Core.Path.{_≡_, refl, sym, ap, subst, _∙_}
+use mathlib.Core.Path.{_≡_, refl, sym, ap, ap₂, subst, _∙_}
 use Prim.Native.Nat.{ℕ, _+_, _*_, _≤_, _<_}
 use native.Mathlib.Omega.{arith}
 use lib.ListN.{length, set}
 use lib.Seq.{sets}
 use mir.Syntax.{w64}
 use mir.Val.{Fits}
+use Rattle.book.specs.Book.{countIn}
+use Rattle.book.specs.declared.state.States.{States}
+use Rattle.book.specs.declared.state.States.the-variants.{Absent, Stood}
 use Rattle.reader.specs.Answer as Reading
 use Rattle.reader.specs.Steps as Steps
 use Rattle.reader.specs.declared.read.Answer.{Answer}
@@ -26,10 +29,10 @@ use Rattle.runs.specs.declared.RunVerdict.the-variants.{Quiet, Reported, Refuse
 use Rattle.listing.specs.Lists as Listing
 use Rattle.listing.specs.declared.whole.Listed.{Listed}
 use Rattle.listing.specs.declared.whole.Listed.the-variants.{Text, Refused as NotListed}
-use Rattle.cavewatch_c.specs.Numbers.{Told, told, bookTold, lineTold, countTold, stepTold, runTold}
+use Rattle.cavewatch_c.specs.Numbers.{Told, told, stoodIn, bookTold, lineTold, countTold, stepTold, runTold}
 use Rattle.cavewatch_c.specs.Said.{SaysTold, toldBy, SmallLine}
 use Rattle.cavewatch_c.specs.declared.tell.Said.{Said}
-use Rattle.cavewatch_c.specs.declared.tell.Said.the-variants.{Number, One, Three}
+use Rattle.cavewatch_c.specs.declared.tell.Said.the-variants.{Number, One, Three, Six}
 
 -- ---- what is said is written
 module _ (x : Said) (found : List ℕ) where
@@ -48,16 +51,25 @@ module _ (x : Said) (found : List ℕ) where
   pub says-three : (a b c : ℕ) → x ≡ Three a b c → SaysTold (toldBy x) found 0 (set (set (set found 0 a) 1 b) 2 c)
   says-three a b c e = says-as (Three a b c) e
 
+  pub says-six : (a b c d f g : ℕ) → x ≡ Six a b c d f g → SaysTold (toldBy x) found 0 (set (set (set (set (set (set found 0 a) 1 b) 2 c) 3 d) 4 f) 5 g)
+  says-six a b c d f g e = says-as (Six a b c d f g) e
+
 -- ---- a book
+pub stood-absent : (c : States) → c ≡ Absent → 0 ≡ stoodIn c
+stood-absent c e = sym (ap stoodIn e)
+
+pub stood-some : (c : States) (n : ℕ) → c ≡ Stood n → 1 ≡ stoodIn c
+stood-some c n e = sym (ap stoodIn e)
+
 module _ (a : Answer) where
-  pub told-read : (r n s : ℕ) → a ≡ Read r n s → toldBy (Three r n s) ≡ bookTold (Reading.resultOf a)
-  told-read r n s e = sym (ap (λ (x : Answer). bookTold (Reading.resultOf x)) e)
+  pub told-read : (r n s m : ℕ) (c : States) (i j : ℕ) → a ≡ Read r n s m c → i ≡ stoodIn c → j ≡ countIn c → toldBy (Six r n s m i j) ≡ bookTold (Reading.resultOf a)
+  told-read r n s m c i j e p q = ap₂ (λ (x y : ℕ). toldBy (Six r n s m x y)) p q ∙ sym (ap (λ (x : Answer). bookTold (Reading.resultOf x)) e)
 
   module _ (n k : ℕ) (e : a ≡ NotRead n k) where
     pub told-unread : toldBy (Number (n + 256 * k)) ≡ bookTold (Reading.resultOf a)
     told-unread = sym (ap (λ (x : Answer). bookTold (Reading.resultOf x)) e)
 
-    small : SmallLine a → (n ≤ 10) × (k ≤ 65535)
+    small : SmallLine a → (n ≤ 25) × (k ≤ 65535)
     small h = subst SmallLine e h
 
     pub line-fits : SmallLine a → Fits w64 (256 * k)

@@ -4,7 +4,7 @@ use mathlib.Core.List.{List}
 use Prim.Native.Nat.{ℕ}
 use Rattle.result.specs.Result.{given}
 use Rattle.book.specs.Book.{bookResult}
-use Rattle.reader.specs.BookTables.{BookTables, readInto, after}
+use Rattle.reader.specs.BookTables.{BookTables, SlotTables, readInto, after, slotsAfter}
 use Rattle.reader.specs.Steps.{nextStep}
 use Rattle.compiler.specs.Compiled.{compileCall}
 use Rattle.node_step.specs.Memory.{Memory}
@@ -17,9 +17,10 @@ use Rattle.listing.specs.Lists.{listCall}
 use Rattle.cavewatch_c.specs.Numbers.{told, bookTold, lineTold, countTold, madeTold, stepTold, runTold}
 use Rattle.cavewatch_c.specs.Said.{SaysTold}
 
-pub record ReadBook (text : List ℕ) (t : BookTables) (found : List ℕ) (r : ℕ) (t′ : BookTables) (found′ : List ℕ) : Type 0 where
-  pub says : SaysTold (bookTold (bookResult (readInto text t))) found r found′
-  pub tables : t′ ≡ after (readInto text t) t
+pub record ReadBook (text : List ℕ) (t : BookTables) (u : SlotTables) (found : List ℕ) (r : ℕ) (t′ : BookTables) (u′ : SlotTables) (found′ : List ℕ) : Type 0 where
+  pub says : SaysTold (bookTold (bookResult (readInto text t u))) found r found′
+  pub tables : t′ ≡ after (readInto text t u) t
+  pub slots : u′ ≡ slotsAfter (readInto text t u) u
 
 abbrev pub NextStep : List ℕ → ℕ → List ℕ → ℕ → List ℕ → Type 0
 NextStep text at found r found′ = SaysTold (told lineTold (given (nextStep text at))) found r found′

@@ -1,6 +1,6 @@
 -- What C is told of a result: one number, and the further numbers that go to the front of the lent `found`.
 --     0         given
---     1 to 24   the refusal; for a book the line, 256 times, is added to it
+--     1 to 25   the refusal; for a book the line, 256 times, is added to it
 --     100       given, and the rule is newly broken
 --     101       given: there is no further step line
 -- Nothing goes to `found` after a refusal.
@@ -9,7 +9,9 @@ use mathlib.Core.List.{List, [], _∷_}
 use mathlib.Core.Option.{Option, none, some}
 use Prim.Native.Nat.{ℕ, _+_, _*_}
 use Rattle.result.specs.Result.{Result, given, refused}
-use Rattle.book.specs.Book.{BookResult, contents, refusal}
+use Rattle.book.specs.Book.{countIn, BookResult, contents, refusal}
+use Rattle.book.specs.declared.state.States.{States}
+use Rattle.book.specs.declared.state.States.the-variants.{Absent, Stood}
 use Rattle.reader.specs.Steps.{Next}
 
 pub record Told : Type 0 where
@@ -23,9 +25,14 @@ abbrev pub told : {A : Type 0} → (A → Told) → Result A → Told
 told f (given a) = f a
 told f (refused n) = tell n []
 
--- a book: the counts of rules and nodes and the place of the first step line
+-- 1 where a `states` line stood, else 0
+abbrev pub stoodIn : States → ℕ
+stoodIn Absent = 0
+stoodIn (Stood c) = 1
+
+-- a book: the counts of rules and nodes, the place of the first step line, the count of slots, whether a `states` line stood, the count of states
 abbrev pub bookTold : BookResult → Told
-bookTold (contents r n s) = tell 0 (r ∷ n ∷ s ∷ [])
+bookTold (contents r n s m c) = tell 0 (r ∷ n ∷ s ∷ m ∷ stoodIn c ∷ countIn c ∷ [])
 bookTold (refusal n k) = tell (n + 256 * k) []
 
 -- a step line: its step, its truths, the place behind it

@@ -8,7 +8,7 @@ use Rattle.reader.specs.declared.read.Answer.{Answer}
 use Rattle.reader.specs.declared.read.Answer.the-variants.{Read, Refused}
 use Rattle.cavewatch_c.specs.Numbers.{Told, tell}
 use Rattle.cavewatch_c.specs.declared.tell.Said.{Said}
-use Rattle.cavewatch_c.specs.declared.tell.Said.the-variants.{Number, One, Three}
+use Rattle.cavewatch_c.specs.declared.tell.Said.the-variants.{Number, One, Three, Six}
 
 pub record SaysTold (t : Told) (found : List ℕ) (r : ℕ) (found′ : List ℕ) : Type 0 where
   pub number-is : r ≡ t .number
@@ -18,8 +18,9 @@ abbrev pub toldBy : Said → Told
 toldBy (Number n) = tell n []
 toldBy (One n a) = tell n (a ∷ [])
 toldBy (Three a b c) = tell 0 (a ∷ b ∷ c ∷ [])
+toldBy (Six a b c d e f) = tell 0 (a ∷ b ∷ c ∷ d ∷ e ∷ f ∷ [])
 
--- a refusal of a book has a number up to 10 and a line up to 65,535
+-- a refusal of a book has a number up to 25 and a line up to 65,535
 abbrev pub SmallLine : Answer → Type 0
-SmallLine (Read r n s) = Unit
-SmallLine (Refused n k) = (n ≤ 10) × (k ≤ bookBytes)
+SmallLine (Read r n s m c) = Unit
+SmallLine (Refused n k) = (n ≤ 25) × (k ≤ bookBytes)

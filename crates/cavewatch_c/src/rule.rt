@@ -20,7 +20,7 @@ pub extern "C" fn cavewatch_compile_rule(
     first: usize,
     count: usize,
     nodes: &mut [u64],
-    found: &mut [u64; 3],
+    found: &mut [u64; 6],
 ) -> u64
     ensures { λ r. ⌜ CompileRule (now (ops .entry)) (now (nums .entry)) first count (now (nodes .entry)) (now (found .entry)) r (now (nodes .exit)) (now (found .exit)) ⌝ }
 {
@@ -132,7 +132,7 @@ pub extern "C" fn cavewatch_run(
     culprits: &mut [i64],
     s: u64,
     words: &[u64],
-    found: &mut [u64; 3],
+    found: &mut [u64; 6],
 ) -> u64
     ensures { λ r. ⌜ Run (tables (now (ops .entry)) (now (nums .entry)) first count (now (nodes .entry)) nfirst ncount)
         (monitorOf size (now (forms .entry)) (now (bounds .entry))

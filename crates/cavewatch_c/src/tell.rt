@@ -1,4 +1,6 @@
 // Each answer's result as a number, and the further numbers that go to the front of `found`.
+use book::state::States;
+use book::state::state_count;
 use compiler::Compiled;
 use listing::whole::Listed;
 use reader::read::Answer;
@@ -15,18 +17,19 @@ ghost use Rattle.stepping.specs.Call as Stepping;
 ghost use Rattle.stepping.specs.Fresh as Making;
 ghost use Rattle.runs.specs.Run as Running;
 ghost use Rattle.listing.specs.Lists as Listing;
-ghost use Rattle.cavewatch_c.specs.Numbers.{told, bookTold, lineTold, countTold, madeTold, stepTold, runTold};
+ghost use Rattle.cavewatch_c.specs.Numbers.{told, stoodIn, bookTold, lineTold, countTold, madeTold, stepTold, runTold};
 ghost use Rattle.cavewatch_c.specs.Said.{toldBy, SaysTold, SmallLine};
 
-// A number alone; a number and one further; three further ones, the number being 0.
+// A number alone; a number and one further; three further ones, or six, the number being 0.
 pub enum Said {
     Number(u64),
     One(u64, u64),
     Three(u64, u64, u64),
+    Six(u64, u64, u64, u64, u64, u64),
 }
 
 // The number is answered, the further ones are written.
-pub fn say(said: Said, found: &mut [u64; 3]) -> u64
+pub fn say(said: Said, found: &mut [u64; 6]) -> u64
     ensures { λ r. ⌜ SaysTold (toldBy said) (now (found .entry)) r (now (found .exit)) ⌝ }
 {
     match said {
@@ -43,6 +46,25 @@ pub fn say(said: Said, found: &mut [u64; 3]) -> u64
             found[2] = c;
             return 0;
         }
+        Said::Six(a, b, c, d, e, f) => {
+            found[0] = a;
+            found[1] = b;
+            found[2] = c;
+            found[3] = d;
+            found[4] = e;
+            found[5] = f;
+            return 0;
+        }
+    }
+}
+
+// 1 where a `states` line stood, else 0.
+fn stood(states: States) -> u64
+    ensures { λ r. ⌜ r ≡ stoodIn states ⌝ }
+{
+    match states {
+        States::Absent => 0,
+        States::Stood(_) => 1,
     }
 }
 
@@ -56,7 +78,16 @@ pub(crate) fn tell_read(answer: Answer) -> Said
             rules,
             nodes,
             steps_at,
-        } => Said::Three(rules as u64, nodes as u64, steps_at as u64),
+            slots,
+            states,
+        } => Said::Six(
+            rules as u64,
+            nodes as u64,
+            steps_at as u64,
+            slots as u64,
+            stood(states),
+            state_count(states),
+        ),
         Answer::Refused { number, line } => Said::Number(number as u64 + 256 * line as u64),
     }
 }

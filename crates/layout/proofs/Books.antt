@@ -1,22 +1,22 @@
 -- The answers of the layout over a book.
-use mathlib.Core.Path.{_≡_, refl, sym, ap, ap₂, _∙_}
+use mathlib.Core.Path.{_≡_, refl, sym, ap, ap₂, subst, _∙_}
 use mathlib.Core.Bool.{Bool, true, false, _&&_, not}
 use mathlib.Core.List.{List, [], _∷_, _++_}
 use mathlib.Core.Option.{Option, none, some}
-use mathlib.Core.Logic.{⊎-elim}
-use Prim.Native.Nat.{ℕ, zero, suc, _+_, _≤_, _<_}
+use Prim.Native.Nat.{ℕ, zero, suc, _+_, _^_, _≤_, _<_}
 use native.Mathlib.Omega.{arith}
-use native.Mathlib.Numerals.{add-one}
 use borrow.Author.Tests.{le-leb, lt-leb, leb-true, eq-eqb, ne-eqb}
 use lib.Dec.{leb, eqb}
-use lib.ListN.{length, getD}
-use lib.Seq.{sets}
+use lib.ListN.{length, getD, take}
+use lib.Seq.{sets, length-take-le}
+use mir.Syntax.{w64}
+use mir.Val.{Fits}
 use Rattle.terms.specs.Choice.{pick}
 use Rattle.result.specs.Result.{given, refused}
 use Rattle.formula.specs.Formula.{Formula}
 use Rattle.formula.specs.Table.{isSome, ruleOf, roomy}
 use Rattle.formula.proofs.Rules.{both-long}
-use Rattle.formula.proofs.Cases.{below-or, true-false}
+use Rattle.formula.proofs.Cases.{true-false}
 use Rattle.formula.proofs.Walks.{both-true}
 use Rattle.monitor.specs.Mon.{Mon}
 use Rattle.monitor.specs.Compile.{ruleFaults, ruleNode}
@@ -25,8 +25,13 @@ use Rattle.compiler.specs.declared.Compiled.the-variants.{Nodes, Refused}
 use Rattle.compiler.specs.Compiled.{resultOf, Call, firstOr, compileFormula, ruleCall, orShort, compileCall, Answers}
 use Rattle.plan.specs.Book.{firstBit, listed, kept, filledIn, isZero, partBits, Rowed, Arranged}
 use Rattle.plan.proofs.Rows.{table-bits}
-use Rattle.plan.proofs.Books.{pick-same, same-first}
-use Rattle.layout.specs.Entry.{roomyNodes, roomyRules, ruleAt, monAt, bitsIn, agrees, fine, fineOf, allBelow, Outcome, outcome, sound, laidOut, layoutOf, InRules, InRulesUpto}
+use Rattle.plan.proofs.Books.{pick-same, same-first, same-below}
+use Rattle.encoding.specs.declared.ConfigEncoding.{ConfigEncoding}
+use Rattle.encoding.specs.Below.{allBelow}
+use Rattle.encoding.specs.Encoding.{stateBits, slotBits, slotFrom, monitorsBase, encodingBy, encodingOf, opening, StateSum, SlotSum, MonitorSum}
+use Rattle.encoding.proofs.Below.{all-none, all-more, all-false, all-inv}
+use Rattle.encoding.proofs.Places.{opening-count, opening-widths}
+use Rattle.layout.specs.Entry.{roomyNodes, roomyRules, ruleAt, monAt, bitsIn, agrees, fine, fineOf, Outcome, outcome, sound, roomyTables, roomyOutputs, slotsIn, laidOut, layoutOf, InRules, InRulesUpto, Layable, Laid}
 use Rattle.layout.proofs.Rules.{some-mon, part-compiled}
 
 -- ---- room for 64 rules
@@ -138,30 +143,9 @@ pub record Fining (ops nums refusals firsts counts nfirsts ncounts : List ℕ) (
   pub below : r ≤ n
   pub so-far : allBelow ok r ≡ true
 
-all-false : (ok : ℕ → Bool) (r n : ℕ) → r < n → ok r ≡ false → false ≡ allBelow ok n
-unfolding allBelow
-all-false ok r zero h e = absurd (omega arith)
-all-false ok r (suc n) h e = ⊎-elim
-    (λ l. ap (λ (b : Bool). b && ok n) (all-false ok r n l e))
-    (λ l. let z : r ≡ n = omega arith in last (allBelow ok n) (ok n) (sym (ap ok z) ∙ e))
-    (below-or r n)
-  where
-    last : (a b : Bool) → b ≡ false → false ≡ (a && b)
-    last true b p = sym p
-    last false b p = refl
-
-all-inv : (ok : ℕ → Bool) (n r : ℕ) → allBelow ok n ≡ true → r < n → ok r ≡ true
-unfolding allBelow
-all-inv ok zero r e h = absurd (omega arith)
-all-inv ok (suc n) r e h = ⊎-elim
-    (λ l. all-inv ok n r (both-true (allBelow ok n) (ok n) e .0) l)
-    (λ l. let z : r ≡ n = omega arith in ap ok z ∙ both-true (allBelow ok n) (ok n) e .1)
-    (below-or r n)
-
 module _ (ops nums refusals firsts counts nfirsts ncounts : List ℕ) (ok : ℕ → Bool) (n : ℕ) where
   pub fining-none : InRulesUpto ops nums refusals firsts counts nfirsts ncounts n → Fining ops nums refusals firsts counts nfirsts ncounts ok n 0
-  unfolding allBelow
-  fining-none w = record { room = w; below = omega arith; so-far = refl }
+  fining-none w = record { room = w; below = omega arith; so-far = all-none ok }
 
   module _ (r : ℕ) (g : Fining ops nums refusals firsts counts nfirsts ncounts ok n r) where
     pub fining-all : n ≤ r → true ≡ allBelow ok n
@@ -184,12 +168,7 @@ module _ (ops nums refusals firsts counts nfirsts ncounts : List ℕ) (ok : ℕ 
         fining-false z = all-false ok r n h (sym e ∙ z)
 
         pub fining-more : b ≡ true → Fining ops nums refusals firsts counts nfirsts ncounts ok n (r + 1)
-        unfolding allBelow
-        fining-more z = record {
-          room = g .room;
-          below = omega arith;
-          so-far = ap (allBelow ok) (add-one r) ∙ ap₂ _&&_ (g .so-far) (sym e ∙ z);
-        }
+        fining-more z = record { room = g .room; below = omega arith; so-far = all-more ok r (g .so-far) (sym e ∙ z) }
 
 -- ---- two ways to know the bits of the rules below n agree, where they compile
 module _ (n : ℕ) (property compiled : ℕ → Bool) (f g : ℕ → ℕ) (h : (r : ℕ) → r < n → compiled r ≡ true → f r ≡ g r) where
@@ -201,99 +180,208 @@ module _ (n : ℕ) (property compiled : ℕ → Bool) (f g : ℕ → ℕ) (h : (
   same-bits : (old : List ℕ) → filledIn compiled f old n ≡ filledIn compiled g old n
   same-bits old = ap (sets old 0) (same-listed f g old n (λ r l. pick-same (compiled r) (f r) (g r) (getD old r 0) (λ e. h r l e)))
 
-  same-firsts : (old : List ℕ) → filledIn compiled (firstBit 0 n property compiled f) old n ≡ filledIn compiled (firstBit 0 n property compiled g) old n
-  same-firsts old = ap (sets old 0)
-      (same-listed (firstBit 0 n property compiled f) (firstBit 0 n property compiled g) old n
-      (λ r l. pick-same (compiled r) _ _ (getD old r 0) (λ e. same-first n property property compiled compiled f g (λ k j. refl) (λ k j. refl) h 0 r l)))
+  same-firsts : (base : ℕ) (old : List ℕ) → filledIn compiled (firstBit base n property compiled f) old n ≡ filledIn compiled (firstBit base n property compiled g) old n
+  same-firsts base old = ap (sets old 0)
+      (same-listed (firstBit base n property compiled f) (firstBit base n property compiled g) old n
+      (λ r l. pick-same (compiled r) _ _ (getD old r 0) (λ e. same-first n property property compiled compiled f g (λ k j. refl) (λ k j. refl) h base r l)))
 
--- ---- the call
-module _ (ops nums firsts counts nodes nfirsts ncounts kinds refusals : List ℕ) (n : ℕ) (starts bits′ : List ℕ) where
-  answer : (w v t u s : Bool) → Outcome
-  answer w v t u s =
-      pick (w && (v && (t && u)))
-      (pick s (laidOut kinds refusals (monAt ops nums firsts counts nodes nfirsts ncounts) n starts bits′) (outcome (refused 2) starts bits′))
-      (outcome (refused 1) starts bits′)
+  same-encoding : (states : ℕ) (ws : List ℕ) → encodingOf states ws n compiled f ≡ encodingOf states ws n compiled g
+  unfolding encodingOf
+  same-encoding states ws = ap (encodingBy (stateBits states) (slotBits ws)) (same-below compiled compiled f g n (λ r l. pick-same (compiled r) (f r) (g r) 0 (h r l)))
 
-  layout-is : {w v t u s : Bool} → roomyNodes ops nums nodes ≡ w → roomyRules kinds refusals firsts counts nfirsts ncounts ≡ v → leb 64 (length starts) ≡ t
-      → leb 64 (length bits′) ≡ u → sound (ruleAt ops nums firsts counts) refusals (monAt ops nums firsts counts nodes nfirsts ncounts) n ≡ s
-      → layoutOf ops nums firsts counts nodes nfirsts ncounts kinds refusals n starts bits′ ≡ answer w v t u s
-  unfolding layoutOf answer
-  layout-is a b c d e = λ i. answer (a i) (b i) (c i) (d i) (e i)
-
+-- ---- room in the tables and in the outputs
+module _ (ops nums nodes kinds refusals firsts counts nfirsts ncounts widths : List ℕ) where
   module _ (w : Bool) (e : w ≡ roomyNodes ops nums nodes) where
-    pub layout-narrow : w ≡ false → outcome (refused 1) starts bits′ ≡ layoutOf ops nums firsts counts nodes nfirsts ncounts kinds refusals n starts bits′
-    unfolding answer
-    layout-narrow h = sym (layout-is (sym e ∙ h) refl refl refl refl)
+    pub tables-narrow : w ≡ false → false ≡ roomyTables ops nums nodes kinds refusals firsts counts nfirsts ncounts widths
+    tables-narrow h = sym (ap (λ (b : Bool). b && (roomyRules kinds refusals firsts counts nfirsts ncounts && leb 32 (length widths))) (sym e ∙ h))
 
     module _ (h : w ≡ true) (v : Bool) (e₂ : v ≡ roomyRules kinds refusals firsts counts nfirsts ncounts) where
-      pub layout-short : v ≡ false → outcome (refused 1) starts bits′ ≡ layoutOf ops nums firsts counts nodes nfirsts ncounts kinds refusals n starts bits′
+      pub tables-short : v ≡ false → false ≡ roomyTables ops nums nodes kinds refusals firsts counts nfirsts ncounts widths
+      tables-short g = sym (ap₂ (λ (a b : Bool). a && (b && leb 32 (length widths))) (sym e ∙ h) (sym e₂ ∙ g))
+
+      pub tables-slots : v ≡ true → leb 32 (length widths) ≡ roomyTables ops nums nodes kinds refusals firsts counts nfirsts ncounts widths
+      tables-slots g = sym (ap₂ (λ (a b : Bool). a && (b && leb 32 (length widths))) (sym e ∙ h) (sym e₂ ∙ g))
+
+  -- what it says
+  module _ (w : Bool) (e : w ≡ roomyTables ops nums nodes kinds refusals firsts counts nfirsts ncounts widths) (h : w ≡ true) where
+    nodes-and : (roomyNodes ops nums nodes ≡ true) × ((roomyRules kinds refusals firsts counts nfirsts ncounts && leb 32 (length widths)) ≡ true)
+    nodes-and = both-true (roomyNodes ops nums nodes) (roomyRules kinds refusals firsts counts nfirsts ncounts && leb 32 (length widths)) (sym e ∙ h)
+
+    rules-and : (roomyRules kinds refusals firsts counts nfirsts ncounts ≡ true) × (leb 32 (length widths) ≡ true)
+    rules-and = both-true (roomyRules kinds refusals firsts counts nfirsts ncounts) (leb 32 (length widths)) (nodes-and .1)
+
+    rules-long : Long kinds refusals firsts counts nfirsts ncounts
+    rules-long = long kinds refusals firsts counts nfirsts ncounts _ refl (rules-and .0)
+
+    pub widths-long : 32 ≤ length widths
+    widths-long = leb-true _ _ (rules-and .1)
+
+    pub rules-in : InRulesUpto ops nums refusals firsts counts nfirsts ncounts 64
+    rules-in =
+        let (_, r) = both-true (leb 1792 (length nodes)) (roomy ops nums) (nodes-and .0) in
+        let (a, b) = both-true (leb 1024 (length ops)) (leb 1024 (length nums)) r in
+        let o = rules-long in
+        record {
+          in-ops = leb-true _ _ a;
+          in-nums = leb-true _ _ b;
+          in-refusals = o .r-long;
+          in-firsts = o .f-long;
+          in-counts = o .c-long;
+          in-nfirsts = o .nf-long;
+          in-ncounts = o .nc-long;
+        }
+
+module _ (starts bits places : ℕ) where
+  pub outputs-starts : starts < 64 → false ≡ roomyOutputs starts bits places
+  outputs-starts h = rw (lt-leb 64 starts h) refl
+
+  pub outputs-bits : 64 ≤ starts → bits < 64 → false ≡ roomyOutputs starts bits places
+  outputs-bits h g = rw (le-leb 64 starts h, lt-leb 64 bits g) refl
+
+  pub outputs-places : 64 ≤ starts → 64 ≤ bits → leb 32 places ≡ roomyOutputs starts bits places
+  outputs-places h g = rw (le-leb 64 starts h, le-leb 64 bits g) refl
+
+  outputs-long : (w : Bool) → w ≡ roomyOutputs starts bits places → w ≡ true → (64 ≤ starts) × ((64 ≤ bits) × (32 ≤ places))
+  outputs-long w e h =
+      let (a, p) = both-true (leb 64 starts) (leb 64 bits && leb 32 places) (sym e ∙ h) in
+      let (b, c) = both-true (leb 64 bits) (leb 32 places) p in
+      (leb-true _ _ a, (leb-true _ _ b, leb-true _ _ c))
+
+-- ---- what is lent is sound
+module _ (states : ℕ) (widths : List ℕ) (m : ℕ) (rule : ℕ → Option Formula) (refusals : List ℕ) (mon : ℕ → Option Mon) (n : ℕ) (b : Bool) (e : b ≡ opening states widths m) where
+  pub sound-closed : b ≡ false → false ≡ sound states widths m rule refusals mon n
+  sound-closed h = sym (ap (λ (c : Bool). c && (leb n 64 && allBelow (fineOf rule refusals mon) n)) (sym e ∙ h))
+
+  module _ (h : b ≡ true) where
+    pub sound-many : 64 < n → false ≡ sound states widths m rule refusals mon n
+    sound-many k = sym (ap₂ (λ (c d : Bool). c && (d && allBelow (fineOf rule refusals mon) n)) (sym e ∙ h) (lt-leb _ _ k))
+
+    pub sound-fine : n ≤ 64 → (q : Bool) → q ≡ allBelow (fineOf rule refusals mon) n → q ≡ sound states widths m rule refusals mon n
+    sound-fine k q z = z ∙ sym (ap₂ (λ (c d : Bool). c && (d && allBelow (fineOf rule refusals mon) n)) (sym e ∙ h) (le-leb _ _ k))
+
+pub fewer-rules : (ops nums refusals firsts counts nfirsts ncounts : List ℕ) (n : ℕ) → InRulesUpto ops nums refusals firsts counts nfirsts ncounts 64 → n ≤ 64
+    → InRulesUpto ops nums refusals firsts counts nfirsts ncounts n
+fewer-rules ops nums refusals firsts counts nfirsts ncounts n w k = record {
+  in-ops = w .in-ops;
+  in-nums = w .in-nums;
+  in-refusals = omega (arith, w .in-refusals);
+  in-firsts = omega (arith, w .in-firsts);
+  in-counts = omega (arith, w .in-counts);
+  in-nfirsts = omega (arith, w .in-nfirsts);
+  in-ncounts = omega (arith, w .in-ncounts);
+}
+
+-- ---- laying out
+module _ (kinds refusals nodes nfirsts ncounts : List ℕ) (n states : ℕ) (widths : List ℕ) (m : ℕ) (starts bits places : List ℕ)
+    (w : Layable kinds refusals nodes nfirsts ncounts n states widths m starts bits places) (state vars : ℕ) (a : StateSum states state) (b : SlotSum (take m widths) m vars) where
+  pub base-fits : Fits w64 (state + vars)
+  base-fits = record { fits = omega (arith, a .most, b .most, w .slots .few) }
+
+  pub base-low : state + vars < 2 ^ 63
+  base-low = omega (arith, a .most, b .most, w .slots .few)
+
+  pub state-small : state < 2 ^ 60
+  state-small = omega (arith, a .most)
+
+  pub slots-small : vars < 2 ^ 60
+  slots-small = omega (arith, b .most, w .slots .few)
+
+  module _ (monitors : ℕ) (d : MonitorSum n (isZero refusals) (partBits nodes nfirsts ncounts) monitors) where
+    pub laid : (starts′ bits′ places′ : List ℕ) (r : ConfigEncoding) → places′ ≡ sets places 0 (listed (slotFrom state (take m widths)) m)
+        → Arranged (state + vars) n (isZero kinds) (isZero refusals) (partBits nodes nfirsts ncounts) starts starts′ bits bits′ → r ≡ encodingBy state vars monitors
+        → Laid kinds refusals nodes nfirsts ncounts n states widths m starts starts′ bits bits′ places places′ r
+    unfolding encodingOf
+    laid starts′ bits′ places′ r p q z = record {
+      encoded = z ∙ ap₂ (λ (s v : ℕ). encodingBy s v monitors) (a .is) (b .is) ∙ ap (encodingBy (stateBits states) (slotBits (take m widths))) (d .is);
+      arranged = subst (λ (k : ℕ). Arranged k n (isZero kinds) (isZero refusals) (partBits nodes nfirsts ncounts) starts starts′ bits bits′) (ap₂ _+_ (a .is) (b .is)) q;
+      slots-are = p ∙ ap₂ (λ (s k : ℕ). sets places 0 (listed (slotFrom s (take m widths)) k)) (a .is) (sym (length-take-le m widths (w .slots .inside)));
+    }
+
+-- ---- the call
+module _ (ops nums firsts counts nodes nfirsts ncounts kinds refusals : List ℕ) (n states : ℕ) (widths : List ℕ) (m : ℕ) (starts bits′ places : List ℕ) where
+  answer : (w o s : Bool) → Outcome
+  answer w o s =
+      pick (w && o)
+      (pick s (laidOut kinds refusals (monAt ops nums firsts counts nodes nfirsts ncounts) n states (take m widths) starts bits′ places) (outcome (refused 2) starts bits′ places))
+      (outcome (refused 1) starts bits′ places)
+
+  layout-is : {w o s : Bool} → roomyTables ops nums nodes kinds refusals firsts counts nfirsts ncounts widths ≡ w → roomyOutputs (length starts) (length bits′) (length places) ≡ o
+      → sound states widths m (ruleAt ops nums firsts counts) refusals (monAt ops nums firsts counts nodes nfirsts ncounts) n ≡ s
+      → layoutOf ops nums firsts counts nodes nfirsts ncounts kinds refusals n states widths m starts bits′ places ≡ answer w o s
+  unfolding layoutOf answer
+  layout-is a b c = λ i. answer (a i) (b i) (c i)
+
+  module _ (w : Bool) (e : w ≡ roomyTables ops nums nodes kinds refusals firsts counts nfirsts ncounts widths) where
+    pub layout-narrow : w ≡ false → outcome (refused 1) starts bits′ places ≡ layoutOf ops nums firsts counts nodes nfirsts ncounts kinds refusals n states widths m starts bits′ places
+    unfolding answer
+    layout-narrow h = sym (layout-is (sym e ∙ h) refl refl)
+
+    module _ (h : w ≡ true) (o : Bool) (e₂ : o ≡ roomyOutputs (length starts) (length bits′) (length places)) where
+      pub layout-short : o ≡ false → outcome (refused 1) starts bits′ places ≡ layoutOf ops nums firsts counts nodes nfirsts ncounts kinds refusals n states widths m starts bits′ places
       unfolding answer
-      layout-short g = sym (layout-is (sym e ∙ h) (sym e₂ ∙ g) refl refl refl)
+      layout-short g = sym (layout-is (sym e ∙ h) (sym e₂ ∙ g) refl)
 
-      module _ (g : v ≡ true) where
-        pub layout-starts : length starts < 64 → outcome (refused 1) starts bits′ ≡ layoutOf ops nums firsts counts nodes nfirsts ncounts kinds refusals n starts bits′
+      module _ (g : o ≡ true) (q : Bool) (z : q ≡ sound states widths m (ruleAt ops nums firsts counts) refusals (monAt ops nums firsts counts nodes nfirsts ncounts) n) where
+        pub layout-unsound : q ≡ false → outcome (refused 2) starts bits′ places ≡ layoutOf ops nums firsts counts nodes nfirsts ncounts kinds refusals n states widths m starts bits′ places
         unfolding answer
-        layout-starts l = sym (layout-is (sym e ∙ h) (sym e₂ ∙ g) (lt-leb _ _ l) refl refl)
+        layout-unsound y = sym (layout-is (sym e ∙ h) (sym e₂ ∙ g) (sym z ∙ y))
 
-        module _ (l : 64 ≤ length starts) where
-          pub layout-bits : length bits′ < 64 → outcome (refused 1) starts bits′ ≡ layoutOf ops nums firsts counts nodes nfirsts ncounts kinds refusals n starts bits′
+        module _ (y : q ≡ true) where
+          opens-and : (opening states widths m ≡ true) × ((leb n 64 && allBelow (fineOf (ruleAt ops nums firsts counts) refusals (monAt ops nums firsts counts nodes nfirsts ncounts)) n) ≡ true)
+          opens-and = both-true (opening states widths m) _ (sym z ∙ y)
+
+          few-and : (leb n 64 ≡ true) × (allBelow (fineOf (ruleAt ops nums firsts counts) refusals (monAt ops nums firsts counts nodes nfirsts ncounts)) n ≡ true)
+          few-and = both-true (leb n 64) _ (opens-and .1)
+
+          few-rules : n ≤ 64
+          few-rules = leb-true _ _ (few-and .0)
+
+          is-fine : (r : ℕ) → r < n → isZero refusals r ≡ true → isSome (monAt ops nums firsts counts nodes nfirsts ncounts r) ≡ true
+          is-fine r j c = flag-zero (ruleAt ops nums firsts counts r) _ _ c
+              (all-inv (fineOf (ruleAt ops nums firsts counts) refusals (monAt ops nums firsts counts nodes nfirsts ncounts)) n r (few-and .1) j)
+
+          rules-rowed : Rowed kinds refusals nodes nfirsts ncounts n
+          rules-rowed =
+              let o = rules-long ops nums nodes kinds refusals firsts counts nfirsts ncounts widths w e h in
+              let k = few-rules in
+              record {
+                few = k;
+                in-kinds = omega (arith, o .k-long);
+                in-refusals = omega (arith, o .r-long);
+                in-nfirsts = omega (arith, o .nf-long);
+                in-ncounts = omega (arith, o .nc-long);
+                parts = λ r j c. part-compiled ops nums (getD firsts r 0) (getD counts r 0) nodes (getD nfirsts r 0) (getD ncounts r 0) _ refl (is-fine r j (eq-eqb _ 0 c));
+              }
+
+          pub layable : Layable kinds refusals nodes nfirsts ncounts n states widths m starts bits′ places
+          layable =
+              let l = outputs-long (length starts) (length bits′) (length places) o e₂ g in
+              let k = few-rules in
+              let s = opening-widths states widths m _ refl (opens-and .0) (widths-long ops nums nodes kinds refusals firsts counts nfirsts ncounts widths w e h) in
+              record {
+                rowed = rules-rowed;
+                counted = opening-count states widths m _ refl (opens-and .0);
+                slots = s;
+                in-starts = omega (arith, l .0);
+                in-bits = omega (arith, l .1 .0);
+                in-places = omega (arith, l .1 .1, s .few);
+              }
+
+          same-as-mon : (r : ℕ) → r < n → isZero refusals r ≡ true → partBits nodes nfirsts ncounts r ≡ bitsIn (monAt ops nums firsts counts nodes nfirsts ncounts r)
+          same-as-mon r j c =
+              let (x, p) = some-mon _ _ refl (is-fine r j c) in
+              table-bits ops nums (getD firsts r 0) (getD counts r 0) nodes (getD nfirsts r 0) (getD ncounts r 0) x p ∙ sym (ap bitsIn p)
+
+          pub layout-done : (starts″ bits″ places″ : List ℕ) (r : ConfigEncoding)
+              → Laid kinds refusals nodes nfirsts ncounts n states widths m starts starts″ bits′ bits″ places places″ r
+              → outcome (given r) starts″ bits″ places″ ≡ layoutOf ops nums firsts counts nodes nfirsts ncounts kinds refusals n states widths m starts bits′ places
           unfolding answer
-          layout-bits m = sym (layout-is (sym e ∙ h) (sym e₂ ∙ g) (le-leb _ _ l) (lt-leb _ _ m) refl)
-
-          module _ (m : 64 ≤ length bits′) where
-            pub layout-many : 64 < n → outcome (refused 2) starts bits′ ≡ layoutOf ops nums firsts counts nodes nfirsts ncounts kinds refusals n starts bits′
-            unfolding answer
-            layout-many k = sym (layout-is (sym e ∙ h) (sym e₂ ∙ g) (le-leb _ _ l) (le-leb _ _ m) (ap (λ (b : Bool). b && allBelow (fineOf (ruleAt ops nums firsts counts) refusals (monAt ops nums firsts counts nodes nfirsts ncounts)) n) (lt-leb _ _ k)))
-
-            module _ (k : n ≤ 64) where
-              open-wide : (1024 ≤ length ops) × (1024 ≤ length nums)
-              open-wide =
-                  let (_, r) = both-true (leb 1792 (length nodes)) (roomy ops nums) (sym e ∙ h) in
-                  let (a, b) = both-true (leb 1024 (length ops)) (leb 1024 (length nums)) r in
-                  (leb-true _ _ a, leb-true _ _ b)
-
-              pub rules-in : InRulesUpto ops nums refusals firsts counts nfirsts ncounts n
-              rules-in =
-                  let o = long kinds refusals firsts counts nfirsts ncounts v e₂ g in
-                  record { in-ops = open-wide .0; in-nums = open-wide .1; in-refusals = omega (arith, o .r-long); in-firsts = omega (arith, o .f-long); in-counts = omega (arith, o .c-long); in-nfirsts = omega (arith, o .nf-long); in-ncounts = omega (arith, o .nc-long) }
-
-              module _ (q : Bool) (z : q ≡ allBelow (fineOf (ruleAt ops nums firsts counts) refusals (monAt ops nums firsts counts nodes nfirsts ncounts)) n) where
-                pub layout-unsound : q ≡ false → outcome (refused 2) starts bits′ ≡ layoutOf ops nums firsts counts nodes nfirsts ncounts kinds refusals n starts bits′
-                unfolding answer
-                layout-unsound y = sym (layout-is (sym e ∙ h) (sym e₂ ∙ g) (le-leb _ _ l) (le-leb _ _ m) (ap₂ _&&_ (le-leb _ _ k) (sym z ∙ y)))
-
-                module _ (y : q ≡ true) where
-                  is-fine : (r : ℕ) → r < n → isZero refusals r ≡ true → isSome (monAt ops nums firsts counts nodes nfirsts ncounts r) ≡ true
-                  is-fine r j c = flag-zero (ruleAt ops nums firsts counts r) _ _ c (all-inv (fineOf (ruleAt ops nums firsts counts) refusals (monAt ops nums firsts counts nodes nfirsts ncounts)) n r (sym z ∙ y) j)
-
-                  pub rules-rowed : Rowed kinds refusals nodes nfirsts ncounts n
-                  rules-rowed =
-                      let o = long kinds refusals firsts counts nfirsts ncounts v e₂ g in
-                      record {
-                        few = k;
-                        in-kinds = omega (arith, o .k-long);
-                        in-refusals = omega (arith, o .r-long);
-                        in-nfirsts = omega (arith, o .nf-long);
-                        in-ncounts = omega (arith, o .nc-long);
-                        parts = λ r j c. part-compiled ops nums (getD firsts r 0) (getD counts r 0) nodes (getD nfirsts r 0) (getD ncounts r 0) _ refl (is-fine r j (eq-eqb _ 0 c));
-                      }
-
-                  pub starts-room : n ≤ length starts
-                  starts-room = omega arith
-
-                  pub bits-room : n ≤ length bits′
-                  bits-room = omega arith
-
-                  same-as-mon : (r : ℕ) → r < n → isZero refusals r ≡ true → partBits nodes nfirsts ncounts r ≡ bitsIn (monAt ops nums firsts counts nodes nfirsts ncounts r)
-                  same-as-mon r j c =
-                      let (x, p) = some-mon _ _ refl (is-fine r j c) in
-                      table-bits ops nums (getD firsts r 0) (getD counts r 0) nodes (getD nfirsts r 0) (getD ncounts r 0) x p ∙ sym (ap bitsIn p)
-
-                  pub layout-done : (starts″ bits″ : List ℕ) → Arranged 0 n (isZero kinds) (isZero refusals) (partBits nodes nfirsts ncounts) starts starts″ bits′ bits″
-                      → outcome (given tt) starts″ bits″ ≡ layoutOf ops nums firsts counts nodes nfirsts ncounts kinds refusals n starts bits′
-                  unfolding answer
-                  layout-done starts″ bits″ a =
-                      ap₂ (outcome (given tt))
-                      (a .firsts-are ∙ same-firsts n (isZero kinds) (isZero refusals) (partBits nodes nfirsts ncounts) (λ r. bitsIn (monAt ops nums firsts counts nodes nfirsts ncounts r)) same-as-mon starts)
-                      (a .bits-are ∙ same-bits n (isZero kinds) (isZero refusals) (partBits nodes nfirsts ncounts) (λ r. bitsIn (monAt ops nums firsts counts nodes nfirsts ncounts r)) same-as-mon bits′)
-                      ∙ sym (layout-is (sym e ∙ h) (sym e₂ ∙ g) (le-leb _ _ l) (le-leb _ _ m) (ap₂ _&&_ (le-leb _ _ k) (sym z ∙ y)))
+          layout-done starts″ bits″ places″ r a =
+              let f : ℕ → ℕ = partBits nodes nfirsts ncounts in
+              let t : ℕ → ℕ = λ (r : ℕ). bitsIn (monAt ops nums firsts counts nodes nfirsts ncounts r) in
+              ap₂ (λ (x : ConfigEncoding) (l : List ℕ). outcome (given x) starts″ bits″ l)
+              (a .encoded ∙ same-encoding n (isZero kinds) (isZero refusals) f t same-as-mon states (take m widths)) (a .slots-are)
+              ∙ ap₂ (λ (k l : List ℕ). outcome (given (encodingOf states (take m widths) n (isZero refusals) t)) k l (slotsIn states (take m widths) places))
+              (a .arranged .firsts-are ∙ same-firsts n (isZero kinds) (isZero refusals) f t same-as-mon (monitorsBase states (take m widths)) starts)
+              (a .arranged .bits-are ∙ same-bits n (isZero kinds) (isZero refusals) f t same-as-mon bits′)
+              ∙ sym (layout-is (sym e ∙ h) (sym e₂ ∙ g) (sym z ∙ y))

@@ -2,14 +2,17 @@
 --     bitsResult, slotResult, laidResult    document 01's result of each answer enum
 --     ruleBitsOf    the bits of a rule
 --     nodeSlotOf    a node's own bits and where they begin, counted from the rule's first bit
---     layoutOf      first bits and bits of a book's rules: the result and both outputs afterwards
+--     layoutOf      a book: the numbers of the whole, and the outputs afterwards, which are the first bits and the bits of the rules and the
+--                   first bits of the slots
 use mathlib.Core.Bool.{Bool, true, false, _&&_, not}
 use mathlib.Core.List.{List, [], _∷_}
 use mathlib.Core.Option.{Option, none, some}
-use Prim.Native.Nat.{ℕ, zero, suc, _≤_, _<_}
+use mathlib.Core.Path.{_≡_}
+use Prim.Native.Nat.{ℕ, _≤_, _<_}
 use lib.Dec.{leb, ltb, eqb}
-use lib.ListN.{length, getD}
-use Rattle.terms.specs.Limits.{bookNodes, bookRules, nodeCells}
+use lib.ListN.{length, getD, take}
+use lib.Seq.{sets}
+use Rattle.terms.specs.Limits.{bookNodes, bookRules, bookSlots, stateCounts, nodeCells}
 use Rattle.terms.specs.Choice.{pick}
 use Rattle.result.specs.Result.{Result, given, refused, orElse}
 use Rattle.formula.specs.Formula.{Formula}
@@ -18,8 +21,11 @@ use Rattle.monitor.specs.Mon.{Mon}
 use Rattle.monitor.specs.Table.{compiledOf}
 use Rattle.monitor.specs.Compile.{ruleFaults}
 use Rattle.plan.specs.Layout.{pieces, bits, slotIn}
-use Rattle.plan.specs.Book.{isZero, firstBit, filledIn}
+use Rattle.plan.specs.Book.{isZero, partBits, listed, firstBit, filledIn, Rowed, Arranged}
 use Rattle.plan.specs.declared.layout.Slot.{Slot}
+use Rattle.encoding.specs.declared.ConfigEncoding.{ConfigEncoding}
+use Rattle.encoding.specs.Below.{allBelow}
+use Rattle.encoding.specs.Encoding.{slotFirst, monitorsBase, encodingOf, opening, Widths}
 use Rattle.layout.specs.declared.rule.RuleBits.{RuleBits}
 use Rattle.layout.specs.declared.rule.RuleBits.the-variants.{Bits, Refused as BitsRefused}
 use Rattle.layout.specs.declared.rule.NodeSlot.{NodeSlot}
@@ -64,6 +70,15 @@ roomyRules kinds refusals firsts counts nfirsts ncounts =
     leb bookRules (length kinds) && (leb bookRules (length refusals) && (leb bookRules (length firsts)
     && (leb bookRules (length counts) && (leb bookRules (length nfirsts) && leb bookRules (length ncounts)))))
 
+-- and 32 slots in the list of widths
+abbrev pub roomyTables : List ℕ → List ℕ → List ℕ → List ℕ → List ℕ → List ℕ → List ℕ → List ℕ → List ℕ → List ℕ → Bool
+roomyTables ops nums nodes kinds refusals firsts counts nfirsts ncounts widths =
+    roomyNodes ops nums nodes && (roomyRules kinds refusals firsts counts nfirsts ncounts && leb bookSlots (length widths))
+
+-- the same of the outputs, by their lengths
+abbrev pub roomyOutputs : ℕ → ℕ → ℕ → Bool
+roomyOutputs starts bits places = leb bookRules starts && (leb bookRules bits && leb bookSlots places)
+
 -- the formula of rule r, its compiled rule, and its bits
 abbrev pub ruleAt : List ℕ → List ℕ → List ℕ → List ℕ → ℕ → Option Formula
 ruleAt ops nums firsts counts r = ruleOf ops nums (getD firsts r 0) (getD counts r 0)
@@ -86,40 +101,41 @@ abbrev pub fine : Option Formula → ℕ → Option Mon → Bool
 fine none k m = false
 fine (some f) k m = agrees (ruleFaults f) k m
 
-unfoldable pub allBelow : (ℕ → Bool) → ℕ → Bool
-allBelow ok zero = true
-allBelow ok (suc r) = allBelow ok r && ok r
-
-abbrev pub laidResult : BookLayout → Result Unit
-laidResult Done = given tt
+abbrev pub laidResult : BookLayout → Result ConfigEncoding
+laidResult (Done e) = given e
 laidResult (LaidRefused n) = refused n
 
+-- the result, and the three outputs afterwards
 pub data Outcome : Type 0 where
-  outcome : Result Unit → List ℕ → List ℕ → Outcome
+  outcome : Result ConfigEncoding → List ℕ → List ℕ → List ℕ → Outcome
 
 -- the rules are compiled as their flags say
 abbrev pub fineOf : (ℕ → Option Formula) → List ℕ → (ℕ → Option Mon) → ℕ → Bool
 fineOf rule refusals mon r = fine (rule r) (getD refusals r 0) (mon r)
 
-abbrev pub sound : (ℕ → Option Formula) → List ℕ → (ℕ → Option Mon) → ℕ → Bool
-sound rule refusals mon n = leb n bookRules && allBelow (fineOf rule refusals mon) n
+-- refusal 2: more states, slots, bits of a slot or rules than a book may have, or a rule that is not compiled as its flag says
+abbrev pub sound : ℕ → List ℕ → ℕ → (ℕ → Option Formula) → List ℕ → (ℕ → Option Mon) → ℕ → Bool
+sound states widths m rule refusals mon n = opening states widths m && (leb n bookRules && allBelow (fineOf rule refusals mon) n)
 
-abbrev pub laidOut : List ℕ → List ℕ → (ℕ → Option Mon) → ℕ → List ℕ → List ℕ → Outcome
-laidOut kinds refusals mon n starts bits =
-    outcome (given tt)
-    (filledIn (isZero refusals) (firstBit 0 n (isZero kinds) (isZero refusals) (λ r. bitsIn (mon r))) starts n)
+-- slots of widths ws: the first bit of each stands in its place, and what is past them is kept
+abbrev pub slotsIn : ℕ → List ℕ → List ℕ → List ℕ
+slotsIn states ws places = sets places 0 (listed (slotFirst states ws) (length ws))
+
+abbrev pub laidOut : List ℕ → List ℕ → (ℕ → Option Mon) → ℕ → ℕ → List ℕ → List ℕ → List ℕ → List ℕ → Outcome
+laidOut kinds refusals mon n states ws starts bits places =
+    outcome (given (encodingOf states ws n (isZero refusals) (λ r. bitsIn (mon r))))
+    (filledIn (isZero refusals) (firstBit (monitorsBase states ws) n (isZero kinds) (isZero refusals) (λ r. bitsIn (mon r))) starts n)
     (filledIn (isZero refusals) (λ r. bitsIn (mon r)) bits n)
+    (slotsIn states ws places)
 
-unfoldable pub layoutOf : List ℕ → List ℕ → List ℕ → List ℕ → List ℕ → List ℕ → List ℕ → List ℕ → List ℕ → ℕ → List ℕ → List ℕ
-    → Outcome
-layoutOf ops nums firsts counts nodes nfirsts ncounts kinds refusals n starts bits =
-    pick
-    (roomyNodes ops nums nodes
-    && (roomyRules kinds refusals firsts counts nfirsts ncounts && (leb bookRules (length starts) && leb bookRules (length bits))))
-    (pick (sound (ruleAt ops nums firsts counts) refusals (monAt ops nums firsts counts nodes nfirsts ncounts) n)
-    (laidOut kinds refusals (monAt ops nums firsts counts nodes nfirsts ncounts) n starts bits)
-    (outcome (refused 2) starts bits))
-    (outcome (refused 1) starts bits)
+unfoldable pub layoutOf : List ℕ → List ℕ → List ℕ → List ℕ → List ℕ → List ℕ → List ℕ → List ℕ → List ℕ → ℕ → ℕ → List ℕ → ℕ
+    → List ℕ → List ℕ → List ℕ → Outcome
+layoutOf ops nums firsts counts nodes nfirsts ncounts kinds refusals n states widths m starts bits places =
+    pick (roomyTables ops nums nodes kinds refusals firsts counts nfirsts ncounts widths && roomyOutputs (length starts) (length bits) (length places))
+    (pick (sound states widths m (ruleAt ops nums firsts counts) refusals (monAt ops nums firsts counts nodes nfirsts ncounts) n)
+    (laidOut kinds refusals (monAt ops nums firsts counts nodes nfirsts ncounts) n states (take m widths) starts bits places)
+    (outcome (refused 2) starts bits places))
+    (outcome (refused 1) starts bits places)
 
 -- ---- what the inner calls ask: room in the formula table, and rule r, or all rules below n, in the lists
 pub record InRules (ops nums refusals firsts counts nfirsts ncounts : List ℕ) (r : ℕ) : Type 0 where
@@ -139,3 +155,18 @@ pub record InRulesUpto (ops nums refusals firsts counts nfirsts ncounts : List �
   pub in-counts : n ≤ length counts
   pub in-nfirsts : n ≤ length nfirsts
   pub in-ncounts : n ≤ length ncounts
+
+-- what laying out asks, and what it leaves, with the bits of the rules by the rows of the node table
+pub record Layable (kinds refusals nodes nfirsts ncounts : List ℕ) (n states : ℕ) (widths : List ℕ) (m : ℕ) (starts bits places : List ℕ) : Type 0 where
+  pub rowed : Rowed kinds refusals nodes nfirsts ncounts n
+  pub counted : states < stateCounts
+  pub slots : Widths widths m
+  pub in-starts : n ≤ length starts
+  pub in-bits : n ≤ length bits
+  pub in-places : m ≤ length places
+
+pub record Laid (kinds refusals nodes nfirsts ncounts : List ℕ) (n states : ℕ) (widths : List ℕ) (m : ℕ) (starts starts′ bits bits′ places places′ : List ℕ)
+    (r : ConfigEncoding) : Type 0 where
+  pub encoded : r ≡ encodingOf states (take m widths) n (isZero refusals) (partBits nodes nfirsts ncounts)
+  pub arranged : Arranged (monitorsBase states (take m widths)) n (isZero kinds) (isZero refusals) (partBits nodes nfirsts ncounts) starts starts′ bits bits′
+  pub slots-are : places′ ≡ slotsIn states (take m widths) places

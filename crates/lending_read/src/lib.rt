@@ -6,7 +6,7 @@ use table_read::read_table;
 use terms::limit::BOOK_NODES;
 ghost use Rattle.node_table.specs.Node.{opsOf, numsOf};
 ghost use Rattle.reader.specs.Answer.{Reads};
-ghost use Rattle.reader.specs.BookTables.{columns};
+ghost use Rattle.reader.specs.BookTables.{columns, slotColumns};
 
 // The answer, and the table as reading leaves it.
 pub struct ReadOver {
@@ -14,7 +14,7 @@ pub struct ReadOver {
     pub table: [FormulaNode; BOOK_NODES],
 }
 
-// Reads a book: its rules into the rule list, its nodes into the table's front.
+// Reads a book: its rules into the rule list, its nodes into the table's front, its slots into the slot list.
 pub fn read_over(
     text: &[u8],
     labels: &mut [u8],
@@ -23,12 +23,27 @@ pub fn read_over(
     firsts: &mut [usize],
     counts: &mut [usize],
     mut table: [FormulaNode; BOOK_NODES],
+    names: &mut [u8],
+    sizes: &mut [usize],
+    widths: &mut [u64],
 ) -> ReadOver
     ensures { λ r. ⌜ Reads (now (text .entry))
         (columns (now (labels .entry)) (now (lens .entry)) (now (kinds .entry)) (now (firsts .entry)) (now (counts .entry)) (opsOf table)
-        (numsOf table)) (r .answer) (columns (now (labels .exit)) (now (lens .exit)) (now (kinds .exit)) (now (firsts .exit)) (now (counts .exit))
-        (opsOf (r .table)) (numsOf (r .table))) ⌝ }
+        (numsOf table)) (slotColumns (now (names .entry)) (now (sizes .entry)) (now (widths .entry))) (r .answer)
+        (columns (now (labels .exit)) (now (lens .exit)) (now (kinds .exit)) (now (firsts .exit)) (now (counts .exit))
+        (opsOf (r .table)) (numsOf (r .table))) (slotColumns (now (names .exit)) (now (sizes .exit)) (now (widths .exit))) ⌝ }
 {
-    let answer = read_table(text, labels, lens, kinds, firsts, counts, &mut table);
+    let answer = read_table(
+        text,
+        labels,
+        lens,
+        kinds,
+        firsts,
+        counts,
+        &mut table,
+        names,
+        sizes,
+        widths,
+    );
     ReadOver { answer, table }
 }

@@ -5,10 +5,10 @@ use mathlib.Core.List.{List, [], _∷_}
 use Prim.Native.Nat.{ℕ, zero, suc, _+_, _-_, _^_, _≤_, _<_}
 use native.Mathlib.Omega.{arith}
 use native.Mathlib.Numerals.{add-one}
-use borrow.Author.Tests.{eq-eqb, ne-eqb, lt-ltb, le-ltb, ltb-true, ltb-false}
+use borrow.Author.Tests.{eq-eqb, ne-eqb, lt-ltb, le-ltb, le-leb, lt-leb, ltb-true, ltb-false}
 use lib.Dec.{eqb, leb, ltb}
 use lib.ListN.{length, take, drop, length-take, length-drop}
-use Rattle.terms.specs.Limits.{signals, steps}
+use Rattle.terms.specs.Limits.{signals, slotMost, stateCounts, steps}
 use Rattle.terms.specs.Kinds.{propertyKind, assumptionKind, kinds}
 use Rattle.terms.specs.Choice.{pick}
 use Rattle.number.specs.Number.{decimalOf, hexOf}
@@ -18,7 +18,7 @@ use Rattle.number.specs.declared.Number.the-variants as number
 use Rattle.line.specs.Text.{parts, fields, eqbs, firstAt, Found}
 use Rattle.line.specs.Word.{wordOf}
 use Rattle.line.specs.Line as spec
-use Rattle.line.specs.Line.{isLabel, kindOf, ruleKind, ruleLine, atomLine, boundLine, stepLine, noField, oneField, twoFields, content, ofFields, parse, flawNumber}
+use Rattle.line.specs.Line.{isLabel, kindOf, ruleKind, ruleLine, atomLine, boundLine, stepLine, statesLine, widthLine, slotLine, noField, oneField, twoFields, content, ofFields, parse, flawNumber}
 use Rattle.line.specs.Means.{held, sortIn, means, Meant, LineIs, Anywhere, FieldAt, ReadAs, behind, Tail, countOf}
 use Rattle.line.specs.declared.word.Word.{Word}
 use Rattle.line.specs.declared.word.Word.the-variants as word
@@ -27,7 +27,7 @@ use Rattle.line.specs.declared.line.Sort.the-variants as sort
 use Rattle.line.specs.declared.line.Flaw.{Flaw}
 use Rattle.line.specs.declared.line.Flaw.the-variants as flaw
 use Rattle.line.specs.declared.line.Content.{Content}
-use Rattle.line.specs.declared.line.Content.the-variants.{Rule, Node, Step}
+use Rattle.line.specs.declared.line.Content.the-variants.{Rule, Node, Step, States, Slot}
 use Rattle.line.specs.declared.line.Line.{Line}
 use Rattle.line.specs.declared.line.Line.the-variants.{Bad, Wrong, Right}
 use Rattle.line.proofs.Parts.{parts-cut, fields-whole}
@@ -37,6 +37,8 @@ pub sort-held : (l : List ℕ) (c : Content) → spec.sortOf (held l c) ≡ sort
 sort-held l (Rule start len kind) = refl
 sort-held l (Node op num) = refl
 sort-held l (Step s w) = refl
+sort-held l (States c) = refl
+sort-held l (Slot start len width) = refl
 
 -- ---- kinds
 module _ (f : List ℕ) where
@@ -78,6 +80,10 @@ any-step : {p : spec.Line} (s w : ℕ) → spec.right (spec.step s w) ≡ p → 
 unfolding means
 any-step s w e = record { is = λ l. record { holds = e; inside = tt } }
 
+any-states : {p : spec.Line} (c : ℕ) → spec.right (spec.states c) ≡ p → Anywhere p (Right (States c))
+unfolding means
+any-states c e = record { is = λ l. record { holds = e; inside = tt } }
+
 -- ---- numbers
 module _ (f : List ℕ) (n : Number) (p : n ≡ decimalOf f) where
   pub atom-wrong : (op : ℕ) → n ≡ number.Wrong → Anywhere (atomLine op (decimalOf f)) (Wrong sort.Node flaw.Number)
@@ -100,6 +106,18 @@ module _ (f : List ℕ) (n : Number) (p : n ≡ decimalOf f) where
   unfolding boundLine
   bound-right op v q = any-node op v (rw (← p, q) refl)
 
+  pub states-wrong : n ≡ number.Wrong → Anywhere (statesLine (decimalOf f)) (Wrong sort.States flaw.Number)
+  unfolding statesLine
+  states-wrong q = any-wrong sort.States flaw.Number (rw (← p, q) refl)
+
+  pub states-right : (v : ℕ) → n ≡ number.Value v → v < stateCounts → Anywhere (statesLine (decimalOf f)) (Right (States v))
+  unfolding statesLine
+  states-right v q h = any-states v (rw (← p, q, lt-ltb v stateCounts h) refl)
+
+  pub states-large : (v : ℕ) → n ≡ number.Value v → stateCounts ≤ v → Anywhere (statesLine (decimalOf f)) (Wrong sort.States flaw.Number)
+  unfolding statesLine
+  states-large v q h = any-wrong sort.States flaw.Number (rw (← p, q, le-ltb v stateCounts h) refl)
+
   pub step-wrong : (g : List ℕ) → n ≡ number.Wrong → Anywhere (stepLine (decimalOf f) (hexOf g)) (Wrong sort.Step flaw.Number)
   unfolding stepLine
   step-wrong g q = any-wrong sort.Step flaw.Number (rw (← p, q) refl)
@@ -121,6 +139,29 @@ module _ (f : List ℕ) (n : Number) (p : n ≡ decimalOf f) where
       pub step-right : (u : ℕ) → m ≡ number.Value u → Anywhere (stepLine (decimalOf f) (hexOf g)) (Right (Step v u))
       unfolding stepLine
       step-right u q′ = any-step v u (rw (← p, q, ← p′, q′, lt-ltb v steps h) refl)
+
+-- ---- a slot
+module _ (f g : List ℕ) (start : ℕ) (t : Bool) (p : t ≡ isLabel f) where
+  slot-any : (r : Line) → Anywhere (slotLine f (decimalOf g)) r → ReadAs f start (slotLine f (decimalOf g)) r
+  slot-any r a = record { is = λ l _. a .is l }
+
+  pub slot-unnamed : t ≡ false → ReadAs f start (slotLine f (decimalOf g)) (Wrong sort.Slot flaw.Label)
+  unfolding slotLine
+  slot-unnamed q = slot-any _ (any-wrong sort.Slot flaw.Label (rw (← p, q) refl))
+
+  module _ (q : t ≡ true) (n : Number) (e : n ≡ decimalOf g) where
+    pub slot-wrong : n ≡ number.Wrong → ReadAs f start (slotLine f (decimalOf g)) (Wrong sort.Slot flaw.Number)
+    unfolding slotLine widthLine
+    slot-wrong h = slot-any _ (any-wrong sort.Slot flaw.Number (rw (← p, q, ← e, h) refl))
+
+    module _ (v : ℕ) (h : n ≡ number.Value v) where
+      pub slot-wide : slotMost < v → ReadAs f start (slotLine f (decimalOf g)) (Wrong sort.Slot flaw.Number)
+      unfolding slotLine widthLine
+      slot-wide k = slot-any _ (any-wrong sort.Slot flaw.Number (rw (← p, q, ← e, h, lt-leb v slotMost k) refl))
+
+      pub slot-right : v ≤ slotMost → ReadAs f start (slotLine f (decimalOf g)) (Right (Slot start (length f) v))
+      unfolding slotLine widthLine means
+      slot-right k = record { is = λ l a. record { holds = rw (← p, q, ← e, h, le-leb v slotMost k, a .is) refl; inside = a .inside } }
 
 -- ---- by the word: its fields are as many as it takes, or the line is none
 no-field : (r : spec.Line) (n : ℕ) (f g : List ℕ) → (n ≡ 0 → ⊥) → spec.bad ≡ noField r (behind n f g)
@@ -185,6 +226,22 @@ module _ (w : Word) (n : ℕ) (f g : List ℕ) (start : ℕ) where
   unfolding content
   step-read r e h a = read-any _ r a (rw (e, h) refl)
 
+  pub states-many : w ≡ word.States → (n ≡ 1 → ⊥) → ReadAs f start (content w (behind n f g)) Bad
+  unfolding content
+  states-many e h = read-bad (rw e (one-field _ n f g h))
+
+  pub states-read : (r : Line) → w ≡ word.States → n ≡ 1 → Anywhere (statesLine (decimalOf f)) r → ReadAs f start (content w (behind n f g)) r
+  unfolding content
+  states-read r e h a = read-any _ r a (rw (e, h) refl)
+
+  pub slot-many : w ≡ word.Slot → (n ≡ 2 → ⊥) → ReadAs f start (content w (behind n f g)) Bad
+  unfolding content
+  slot-many e h = read-bad (rw e (two-fields _ n f g h))
+
+  pub slot-read : (r : Line) → w ≡ word.Slot → n ≡ 2 → ReadAs f start (slotLine f (decimalOf g)) r → ReadAs f start (content w (behind n f g)) r
+  unfolding content
+  slot-read r e h a = subst (λ (x : spec.Line). ReadAs f start x r) (rw (e, h) refl) a
+
   pub rule-many : w ≡ word.Rule → (n ≡ 2 → ⊥) → ReadAs f start (content w (behind n f g)) Bad
   unfolding content
   rule-many e h = read-bad (rw e (two-fields _ n f g h))
@@ -207,6 +264,8 @@ many-fields (word.Plain op) a b c fs = refl
 many-fields (word.Bounded op) a b c fs = refl
 many-fields word.Rule a b c fs = refl
 many-fields word.Step a b c fs = refl
+many-fields word.States a b c fs = refl
+many-fields word.Slot a b c fs = refl
 many-fields word.Unknown a b c fs = refl
 
 -- the fields from where the tabs stand

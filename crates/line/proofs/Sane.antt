@@ -1,13 +1,13 @@
 -- What holds of the content of every line: a rule's label is one and its kind too, a node's operation has a word and an atom's signal
--- a bit, a step's number lies below 2^63.
+-- a bit, a step's number lies below 2^63, a count of states below 65,536; a slot's name is a label and its width at most 64.
 use mathlib.Core.Path.{_≡_, refl}
 use mathlib.Core.Bool.{Bool, true, false}
 use mathlib.Core.List.{List, [], _∷_}
 use Prim.Native.Nat.{ℕ, _≤_, _<_}
 use native.Mathlib.Omega.{arith}
-use borrow.Author.Tests.{ltb-true}
-use lib.Dec.{eqb, ltb}
-use Rattle.terms.specs.Limits.{signals, steps}
+use borrow.Author.Tests.{ltb-true, leb-true}
+use lib.Dec.{eqb, leb, ltb}
+use Rattle.terms.specs.Limits.{signals, slotMost, stateCounts, steps}
 use Rattle.terms.specs.Kinds.{kinds}
 use Rattle.terms.specs.Ops.{notOp, words}
 use Rattle.terms.specs.Choice.{pick}
@@ -16,8 +16,8 @@ use Rattle.number.specs.declared.Number.{Number}
 use Rattle.number.specs.declared.Number.the-variants.{Value, Wrong}
 use Rattle.line.specs.Text.{fields, eqbs}
 use Rattle.line.specs.Word.{Entry, vocabulary, lookup, wordOf}
-use Rattle.line.specs.Line.{Content, rule, node, step, Line, bad, wrong, right}
-use Rattle.line.specs.Line.{isLabel, kindOf, ruleKind, ruleLine, atomLine, boundLine, stepLine, noField, oneField, twoFields, content, ofFields, parse}
+use Rattle.line.specs.Line.{Content, rule, node, step, states, slot, Line, bad, wrong, right}
+use Rattle.line.specs.Line.{isLabel, kindOf, ruleKind, ruleLine, atomLine, boundLine, stepLine, statesLine, widthLine, slotLine, noField, oneField, twoFields, content, ofFields, parse}
 use Rattle.line.specs.declared.word.Word.{Word}
 use Rattle.line.specs.declared.word.Word.the-variants as word
 use Rattle.line.specs.declared.line.Sort.{Sort}
@@ -33,10 +33,16 @@ pub record NodeSane (op v : ℕ) : Type 0 where
   pub known : op < words
   pub signal : op < notOp → v < signals
 
+pub record SlotSane (l : List ℕ) (w : ℕ) : Type 0 where
+  pub name : isLabel l ≡ true
+  pub width : w ≤ slotMost
+
 abbrev pub Sane : Content → Type 0
 Sane (rule l k) = RuleSane l k
 Sane (node op v) = NodeSane op v
 Sane (step s w) = s < steps
+Sane (states c) = c < stateCounts
+Sane (slot l w) = SlotSane l w
 
 -- of a line's content, if it has one
 abbrev pub SaneLine : Line → Type 0
@@ -51,6 +57,8 @@ WordSane (word.Plain op) = (notOp ≤ op) × (op < words)
 WordSane (word.Bounded op) = (notOp ≤ op) × (op < words)
 WordSane word.Rule = Unit
 WordSane word.Step = Unit
+WordSane word.States = Unit
+WordSane word.Slot = Unit
 WordSane word.Unknown = Unit
 
 abbrev AllSane : List Entry → Type 0
@@ -93,7 +101,7 @@ word-sane f =
                           (omega arith, omega arith),
                           (
                             (omega arith, omega arith),
-                            ((omega arith, omega arith), (tt, (tt, tt))),
+                            ((omega arith, omega arith), (tt, (tt, (tt, (tt, tt))))),
                           ),
                         ),
                       ),
@@ -146,6 +154,28 @@ step-sane (Value s) (Value w) = go (ltb s steps) refl
     go true e = ltb-true s steps e
     go false e = tt
 
+states-sane : (n : Number) → SaneLine (statesLine n)
+unfolding statesLine
+states-sane Wrong = tt
+states-sane (Value c) = go (ltb c stateCounts) refl
+  where
+    go : (t : Bool) → ltb c stateCounts ≡ t → SaneLine (pick t (right (states c)) (wrong sort.States flaw.Number))
+    go true e = ltb-true c stateCounts e
+    go false e = tt
+
+slot-sane : (f : List ℕ) (n : Number) → SaneLine (slotLine f n)
+unfolding slotLine widthLine
+slot-sane f n = go (isLabel f) refl n
+  where
+    by : isLabel f ≡ true → (w : ℕ) (t : Bool) → leb w slotMost ≡ t → SaneLine (pick t (right (slot f w)) (wrong sort.Slot flaw.Number))
+    by e w true h = record { name = e; width = leb-true w slotMost h }
+    by e w false h = tt
+
+    go : (t : Bool) → isLabel f ≡ t → (m : Number) → SaneLine (pick t (widthLine f m) (wrong sort.Slot flaw.Label))
+    go true e Wrong = tt
+    go true e (Value w) = by e w (leb w slotMost) refl
+    go false e m = tt
+
 -- a line of so many fields, if it is one
 none-sane : (r : Line) (fs : List (List ℕ)) → SaneLine r → SaneLine (noField r fs)
 none-sane r [] h = h
@@ -169,6 +199,8 @@ content-sane (word.Plain op) fs k = none-sane (right (node op 0)) fs (node-sane 
 content-sane (word.Bounded op) fs k = one-sane (λ f. boundLine op (decimalOf f)) fs (λ f. bound-sane op (decimalOf f) (k .0) (k .1))
 content-sane word.Rule fs k = two-sane ruleLine fs rule-sane
 content-sane word.Step fs k = two-sane (λ f g. stepLine (decimalOf f) (hexOf g)) fs (λ f g. step-sane (decimalOf f) (hexOf g))
+content-sane word.States fs k = one-sane (λ f. statesLine (decimalOf f)) fs (λ f. states-sane (decimalOf f))
+content-sane word.Slot fs k = two-sane (λ f g. slotLine f (decimalOf g)) fs (λ f g. slot-sane f (decimalOf g))
 content-sane word.Unknown fs k = tt
 
 fields-sane : (fs : List (List ℕ)) → SaneLine (ofFields fs)

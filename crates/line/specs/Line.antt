@@ -7,7 +7,7 @@ use mathlib.Core.List.{List, [], _∷_}
 use Prim.Native.Nat.{ℕ, zero, suc}
 use lib.Dec.{leb, ltb, eqb}
 use lib.ListN.{length}
-use Rattle.terms.specs.Limits.{labelBytes, signals, steps}
+use Rattle.terms.specs.Limits.{labelBytes, signals, slotMost, stateCounts, steps}
 use Rattle.terms.specs.Kinds.{propertyKind, assumptionKind, kinds}
 use Rattle.terms.specs.Choice.{pick}
 use Rattle.number.specs.Number.{decimalOf, hexOf}
@@ -16,7 +16,7 @@ use Rattle.number.specs.declared.Number.the-variants.{Value, Wrong}
 use Rattle.line.specs.Text.{fields, eqbs}
 use Rattle.line.specs.Word.{wordOf}
 use Rattle.line.specs.declared.word.Word.{Word}
-use Rattle.line.specs.declared.word.Word.the-variants.{Atom, Plain, Bounded, Rule, Step, Unknown}
+use Rattle.line.specs.declared.word.Word.the-variants.{Atom, Plain, Bounded, Rule, Step, States, Slot, Unknown}
 use Rattle.line.specs.declared.line.Sort.{Sort}
 use Rattle.line.specs.declared.line.Sort.the-variants as sort
 use Rattle.line.specs.declared.line.Flaw.{Flaw}
@@ -26,18 +26,22 @@ pub data Content : Type 0 where
   rule : List ℕ → ℕ → Content  -- a label and a kind
   node : ℕ → ℕ → Content  -- a word's number in a formula table, and the number beside it
   step : ℕ → ℕ → Content  -- a step number and the truths
+  states : ℕ → Content  -- how many states the instrument has
+  slot : List ℕ → ℕ → Content  -- a name and a width in bits
 
 abbrev pub sortOf : Content → Sort
 sortOf (rule l k) = sort.Rule
 sortOf (node op v) = sort.Node
 sortOf (step s w) = sort.Step
+sortOf (states c) = sort.States
+sortOf (slot l w) = sort.Slot
 
 pub data Line : Type 0 where
   bad : Line  -- the word is unknown or its field count wrong
   wrong : Sort → Flaw → Line  -- one of its fields is wrong
   right : Content → Line
 
--- document 01's numbers: a label or a kind is wrong; a number is malformed or out of range
+-- document 01's numbers: a label, a name or a kind is wrong; a number is malformed or out of range
 abbrev pub flawNumber : Flaw → ℕ
 flawNumber flaw.Label = 7
 flawNumber flaw.Number = 8
@@ -81,6 +85,19 @@ stepLine Wrong t = wrong sort.Step flaw.Number
 stepLine (Value s) Wrong = wrong sort.Step flaw.Number
 stepLine (Value s) (Value w) = pick (ltb s steps) (right (step s w)) (wrong sort.Step flaw.Number)
 
+-- document 02, order 1: a count of states, 0 to 65,535
+unfoldable pub statesLine : Number → Line
+statesLine Wrong = wrong sort.States flaw.Number
+statesLine (Value n) = pick (ltb n stateCounts) (right (states n)) (wrong sort.States flaw.Number)
+
+-- a slot: a name as a label, and a width, 0 to 64; the name is tested first
+unfoldable pub widthLine : List ℕ → Number → Line
+widthLine name Wrong = wrong sort.Slot flaw.Number
+widthLine name (Value w) = pick (leb w slotMost) (right (slot name w)) (wrong sort.Slot flaw.Number)
+
+unfoldable pub slotLine : List ℕ → Number → Line
+slotLine name w = pick (isLabel name) (widthLine name w) (wrong sort.Slot flaw.Label)
+
 -- so many fields behind a word and no others
 abbrev pub noField : Line → List (List ℕ) → Line
 noField r [] = r
@@ -104,6 +121,8 @@ content (Plain op) fs = noField (right (node op 0)) fs
 content (Bounded op) fs = oneField (λ f. boundLine op (decimalOf f)) fs
 content Rule fs = twoFields ruleLine fs
 content Step fs = twoFields (λ f g. stepLine (decimalOf f) (hexOf g)) fs
+content States fs = oneField (λ f. statesLine (decimalOf f)) fs
+content Slot fs = twoFields (λ f g. slotLine f (decimalOf g)) fs
 content Unknown fs = bad
 
 -- the first field is the word

@@ -7,7 +7,7 @@ use lib.ListN.{length, take, drop}
 use Rattle.line.specs.Line as spec
 use Rattle.line.specs.declared.line.Sort.{Sort}
 use Rattle.line.specs.declared.line.Content.{Content}
-use Rattle.line.specs.declared.line.Content.the-variants.{Rule, Node, Step}
+use Rattle.line.specs.declared.line.Content.the-variants.{Rule, Node, Step, States, Slot}
 use Rattle.line.specs.declared.line.Line.{Line}
 use Rattle.line.specs.declared.line.Line.the-variants.{Bad, Wrong, Right}
 
@@ -15,6 +15,8 @@ abbrev pub held : List ℕ → Content → spec.Content
 held l (Rule start len kind) = spec.rule (take len (drop start l)) kind
 held l (Node op num) = spec.node op num
 held l (Step s w) = spec.step s w
+held l (States c) = spec.states c
+held l (Slot start len width) = spec.slot (take len (drop start l)) width
 
 -- its sort, which no text changes
 abbrev pub sortIn : Content → Sort
@@ -25,11 +27,13 @@ means l Bad = spec.bad
 means l (Wrong s f) = spec.wrong s f
 means l (Right c) = spec.right (held l c)
 
--- a rule's label lies within n bytes
+-- a rule's label, or a slot's name, lies within n bytes
 abbrev pub labelIn : ℕ → Content → Type 0
 labelIn n (Rule start len kind) = start + len ≤ n
 labelIn n (Node op num) = Unit
 labelIn n (Step s w) = Unit
+labelIn n (States c) = Unit
+labelIn n (Slot start len width) = start + len ≤ n
 
 abbrev pub inLine : ℕ → Line → Type 0
 inLine n Bad = Unit

@@ -7,14 +7,14 @@ use Rattle.terms.specs.Choice.{pick}
 use Rattle.terms.specs.Ops.{varOp, inOp, outOp, notOp, nextOp, alwaysOp, eventuallyOp, alwaysForOp, withinOp, andOp, orOp, impliesOp, untilOp}
 use Rattle.line.specs.Text.{eqbs}
 use Rattle.line.specs.declared.word.Word.{Word}
-use Rattle.line.specs.declared.word.Word.the-variants.{Atom, Plain, Bounded, Rule, Step, Unknown}
+use Rattle.line.specs.declared.word.Word.the-variants.{Atom, Plain, Bounded, Rule, Step, States, Slot, Unknown}
 
 -- a word and its spelling
 pub record Entry : Type 0 where
   pub spelling : List ℕ
   pub word : Word
 
--- the words of document 01, those of nodes in the order of their numbers in a formula table
+-- the words of document 01, those of nodes in the order of their numbers in a formula table; then document 02's, order 1
 abbrev pub vocabulary : List Entry
 vocabulary =
     record { spelling = 118 ∷ 97 ∷ 114 ∷ []; word = Atom varOp } ∷  -- var
@@ -32,6 +32,8 @@ vocabulary =
     record { spelling = 117 ∷ 110 ∷ 116 ∷ 105 ∷ 108 ∷ []; word = Plain untilOp } ∷  -- until
     record { spelling = 114 ∷ 117 ∷ 108 ∷ 101 ∷ []; word = Rule } ∷  -- rule
     record { spelling = 115 ∷ 116 ∷ 101 ∷ 112 ∷ []; word = Step } ∷  -- step
+    record { spelling = 115 ∷ 116 ∷ 97 ∷ 116 ∷ 101 ∷ 115 ∷ []; word = States } ∷  -- states
+    record { spelling = 115 ∷ 108 ∷ 111 ∷ 116 ∷ []; word = Slot } ∷  -- slot
     []
 
 -- the first entry that is spelled so

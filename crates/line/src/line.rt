@@ -13,12 +13,14 @@ use terms::kind::KINDS;
 use terms::kind::PROPERTY;
 use terms::limit::LABEL_BYTES;
 use terms::limit::SIGNALS;
+use terms::limit::SLOT_MOST;
+use terms::limit::STATES;
 use terms::limit::STEPS;
 ghost use mathlib.Core.Path.{_≡_};
 ghost use Prim.Native.Nat.{_≤_};
 ghost use lib.ListN.{length};
 ghost use Rattle.number.specs.Number.{decimalOf, hexOf};
-ghost use Rattle.line.specs.Line.{isLabel, kindOf, ruleKind, atomLine, boundLine, stepLine, content, flawNumber};
+ghost use Rattle.line.specs.Line.{isLabel, kindOf, ruleKind, atomLine, boundLine, stepLine, statesLine, slotLine, content, flawNumber};
 ghost use Rattle.line.specs.Means.{LineIs, sortIn, behind, Tail, countOf, Anywhere, ReadAs};
 
 // A line's sort: where it may stand and which limits it has.
@@ -26,6 +28,8 @@ pub enum Sort {
     Rule,
     Node,
     Step,
+    States,
+    Slot,
 }
 
 // What is wrong about a line's fields: a label or a kind, a number.
@@ -34,11 +38,29 @@ pub enum Flaw {
     Number,
 }
 
-// What a right line holds; a rule's label is `len` bytes from `start` of the line on.
+// What a right line holds; a rule's label, and a slot's name, is `len` bytes from `start` of the line on.
 pub enum Content {
-    Rule { start: usize, len: usize, kind: u8 },
-    Node { op: u8, num: u64 },
-    Step { step: u64, truths: u64 },
+    Rule {
+        start: usize,
+        len: usize,
+        kind: u8,
+    },
+    Node {
+        op: u8,
+        num: u64,
+    },
+    Step {
+        step: u64,
+        truths: u64,
+    },
+    States {
+        count: u64,
+    },
+    Slot {
+        start: usize,
+        len: usize,
+        width: u64,
+    },
 }
 
 // Bad: the word is unknown or its field count wrong.
@@ -69,6 +91,12 @@ pub fn sort_of(c: Content) -> Sort
         } => Sort::Rule,
         Content::Node { op: _, num: _ } => Sort::Node,
         Content::Step { step: _, truths: _ } => Sort::Step,
+        Content::States { count: _ } => Sort::States,
+        Content::Slot {
+            start: _,
+            len: _,
+            width: _,
+        } => Sort::Slot,
     }
 }
 
@@ -180,6 +208,56 @@ fn step(s: &[u8], t: &[u8]) -> Line
     Line::Right(Content::Step { step: v, truths: u })
 }
 
+// The line of the states: their count is below 65,536.
+fn states(f: &[u8]) -> Line
+    ensures { λ r. ⌜ Anywhere (statesLine (decimalOf (now (f .entry)))) r ⌝ }
+{
+    let n = decimal(f);
+    let Number::Value(v) = n else {
+        return Line::Wrong {
+            sort: Sort::States,
+            flaw: Flaw::Number,
+        };
+    };
+    if v < STATES {
+        return Line::Right(Content::States { count: v });
+    }
+    Line::Wrong {
+        sort: Sort::States,
+        flaw: Flaw::Number,
+    }
+}
+
+// A slot's line: its name, which starts at `start` of the line, and its width, at most 64.
+fn slot(name: &[u8], width: &[u8], start: usize) -> Line
+    ensures { λ r. ⌜ ReadAs (now (name .entry)) start (slotLine (now (name .entry)) (decimalOf (now (width .entry)))) r ⌝ }
+{
+    if is_label(name) {
+        let n = decimal(width);
+        let Number::Value(v) = n else {
+            return Line::Wrong {
+                sort: Sort::Slot,
+                flaw: Flaw::Number,
+            };
+        };
+        if SLOT_MOST < v {
+            return Line::Wrong {
+                sort: Sort::Slot,
+                flaw: Flaw::Number,
+            };
+        }
+        return Line::Right(Content::Slot {
+            start,
+            len: name.len(),
+            width: v,
+        });
+    }
+    Line::Wrong {
+        sort: Sort::Slot,
+        flaw: Flaw::Label,
+    }
+}
+
 // A line of `n` fields behind its word: f, which starts at `start` of the line, g, and others.
 fn by_word(w: Word, n: usize, f: &[u8], g: &[u8], start: usize) -> Line
     ensures { λ r. ⌜ ReadAs (now (f .entry)) start (content w (behind n (now (f .entry)) (now (g .entry)))) r ⌝ }
@@ -225,6 +303,18 @@ fn by_word(w: Word, n: usize, f: &[u8], g: &[u8], start: usize) -> Line
                 return Line::Bad;
             }
             step(f, g)
+        }
+        Word::States => {
+            if n != 1 {
+                return Line::Bad;
+            }
+            states(f)
+        }
+        Word::Slot => {
+            if n != 2 {
+                return Line::Bad;
+            }
+            slot(f, g, start)
         }
         Word::Unknown => Line::Bad,
     }

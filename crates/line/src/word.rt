@@ -24,6 +24,8 @@ pub enum Word {
     Bounded(u8),
     Rule,
     Step,
+    States,
+    Slot,
     Unknown,
 }
 
@@ -99,6 +101,19 @@ fn from_or(f: &[u8]) -> Word
     }
     if same(f, b"step") {
         return Word::Step;
+    }
+    from_states(f)
+}
+
+// The words from `states` on.
+fn from_states(f: &[u8]) -> Word
+    ensures { λ r. ⌜ r ≡ lookup (drop 15 vocabulary) (now (f .entry)) ⌝ }
+{
+    if same(f, b"states") {
+        return Word::States;
+    }
+    if same(f, b"slot") {
+        return Word::Slot;
     }
     Word::Unknown
 }

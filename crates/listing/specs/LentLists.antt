@@ -44,26 +44,27 @@ pub record HoldsRules (t : BookTables) (R : ℕ → Rule) (n : ℕ) : Type 0 whe
   pub labelled : Labelled (t .labels) (t .lens) R n
   pub held : Held (t .ops) (t .nums) (t .kinds) (t .firsts) (t .counts) R n
 
--- they are compiled and placed too
-pub record BookReady (l : Lent) (R : ℕ → Rule) (n : ℕ) : Type 0 where
+-- they are compiled and placed too, the monitors beginning at bit `base`
+pub record BookReady (base : ℕ) (l : Lent) (R : ℕ → Rule) (n : ℕ) : Type 0 where
   pub holds : HoldsRules (l .book) R n
   pub tabled :
       Tabled (l .book .ops) (l .book .nums) (l .book .firsts) (l .book .counts) (l .nodes) (l .nfirsts) (l .ncounts) (l .refusals) R n
-  pub placed : Placed R n (l .starts) (l .bits)
+  pub placed : Placed base R n (l .starts) (l .bits)
 
 pub record Readied (l : Lent) (n : ℕ) : Type 0 where
+  pub base : ℕ
   pub rules : ℕ → Rule
-  pub is : BookReady l rules n
+  pub is : BookReady base l rules n
 
 -- rule r, with what compiling gave
 pub record RuleReady (l : Lent) (n r : ℕ) (c : Compiling) : Type 0 where
   pub readied : Readied l n
   pub low : r < n
-  pub gave : c ≡ compilingOf (readied .rules) n r
+  pub gave : c ≡ compilingOf (readied .base) (readied .rules) n r
 
 pub record RuleListed (l : Lent) (n r : ℕ) (c : Compiling) (before after : Tape) : Type 0 where
-  pub is : (R : ℕ → Rule) → BookReady l R n → c ≡ compilingOf R n r → Wrote before (ruleText R n r) after
+  pub is : (base : ℕ) (R : ℕ → Rule) → BookReady base l R n → c ≡ compilingOf base R n r → Wrote before (ruleText base R n r) after
 
 -- all rules
 pub record RulesListed (l : Lent) (n : ℕ) (before after : Tape) : Type 0 where
-  pub is : (R : ℕ → Rule) → BookReady l R n → Wrote before (rulesText R n) after
+  pub is : (base : ℕ) (R : ℕ → Rule) → BookReady base l R n → Wrote before (rulesText base R n) after

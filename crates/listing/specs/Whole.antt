@@ -25,9 +25,9 @@ pub record Roomed (nodes nfirsts ncounts refusals : List ℕ) : Type 0 where
   pub in-ncounts : bookRules ≤ length ncounts
   pub in-refusals : bookRules ≤ length refusals
 
--- the rules' lines are written, and the rules are compiled
-pub record HeadListed (t : BookTables) (n : ℕ) (nodes nfirsts ncounts refusals : List ℕ) (before after : Tape) : Type 0 where
-  pub text : (R : ℕ → Rule) → HoldsRules t R n → Wrote before (rulesText R n) after
+-- the rules' lines are written, the monitors beginning at bit `base`, and the rules are compiled
+pub record HeadListed (t : BookTables) (n base : ℕ) (nodes nfirsts ncounts refusals : List ℕ) (before after : Tape) : Type 0 where
+  pub text : (R : ℕ → Rule) → HoldsRules t R n → Wrote before (rulesText base R n) after
   pub tabled : (R : ℕ → Rule) → HoldsRules t R n → Tabled (t .ops) (t .nums) (t .firsts) (t .counts) nodes nfirsts ncounts refusals R n
 
 -- the compiled rules, and a text that is not too long for a book

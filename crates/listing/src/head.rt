@@ -8,6 +8,7 @@ use listing_rules::place::place_rules;
 use listing_section::section::put_section;
 use terms::limit::BOOK_RULES;
 use terms::limit::LABEL_BYTES;
+ghost use Prim.Native.Nat.{_^_, _<_};
 ghost use Rattle.reader.specs.BookTables.{columns};
 ghost use Rattle.text.specs.Tape.{tape};
 ghost use Rattle.listing.specs.LentLists.{lists, Readied, RuleReady, RuleListed, RulesListed};
@@ -125,7 +126,7 @@ pub(crate) fn put_rules(
     place
 }
 
-// The rules are compiled and placed, and their lines written.
+// The rules are compiled and placed, the monitors beginning at bit `base`, and their lines written.
 pub(crate) fn put_head(
     out: &mut [u8],
     ops: &[u8],
@@ -136,15 +137,16 @@ pub(crate) fn put_head(
     firsts: &[usize],
     counts: &[usize],
     n: usize,
+    base: u64,
     nodes: &mut [u64],
     nfirsts: &mut [usize],
     ncounts: &mut [usize],
     refusals: &mut [u64],
 ) -> usize
     requires { ⌜ (KnownBook (columns (now labels) (now lens) (now kinds) (now firsts) (now counts) (now ops) (now nums)) n)
-        × (Roomed (now nodes) (now nfirsts) (now ncounts) (now refusals)) ⌝ }
+        × ((Roomed (now nodes) (now nfirsts) (now ncounts) (now refusals)) × (base < 2 ^ 63)) ⌝ }
     ensures { λ e. ⌜ HeadListed (columns (now (labels .entry)) (now (lens .entry)) (now (kinds .entry)) (now (firsts .entry))
-        (now (counts .entry)) (now (ops .entry)) (now (nums .entry))) n (now (nodes .exit)) (now (nfirsts .exit)) (now (ncounts .exit)) (now (refusals .exit))
+        (now (counts .entry)) (now (ops .entry)) (now (nums .entry))) n base (now (nodes .exit)) (now (nfirsts .exit)) (now (ncounts .exit)) (now (refusals .exit))
         (tape (now (out .entry)) 0) (tape (now (out .exit)) e) ⌝ }
 {
     let mut starts: [u64; BOOK_RULES] = [0; BOOK_RULES];
@@ -168,6 +170,7 @@ pub(crate) fn put_head(
         nfirsts,
         ncounts,
         n,
+        base,
         &mut starts,
         &mut bits,
     );

@@ -41,9 +41,9 @@ owesText q = joined (oweLines (owesOf (splitAnswer q)) 0)
 abbrev pub sectionText : ℕ → Rule → Compiling → List ℕ
 sectionText r q c = ruleLine r (q .label) (q .kind) c ++ (nodesText q ++ (liveText q ++ owesText q))
 
--- rule r of n
-unfoldable pub ruleText : (ℕ → Rule) → ℕ → ℕ → List ℕ
-ruleText R n r = sectionText r (R r) (compilingOf R n r)
+-- rule r of n, the monitors beginning at bit `base`
+unfoldable pub ruleText : ℕ → (ℕ → Rule) → ℕ → ℕ → List ℕ
+ruleText base R n r = sectionText r (R r) (compilingOf base R n r)
 
-unfoldable pub rulesText : (ℕ → Rule) → ℕ → List ℕ
-rulesText R n = upto (ruleText R n) n
+unfoldable pub rulesText : ℕ → (ℕ → Rule) → ℕ → List ℕ
+rulesText base R n = upto (ruleText base R n) n

@@ -2,4 +2,5 @@
 pub mod Fields
 pub mod Nodes
 pub mod Rules
+pub mod Plans
 pub mod Rows

@@ -2,3 +2,4 @@
 pub mod Line
 pub mod Node
 pub mod Rule
+pub mod Plan

@@ -4,3 +4,5 @@ pub mod Calling
 pub mod Firsts
 pub mod Orders
 pub mod Reports
+pub mod AsBefore
+pub mod Tiling

@@ -14,8 +14,10 @@ use lib.ListN.{length, getD}
 use Rattle.meaning.specs.Alarm.{Record, Alarm, First}
 use Rattle.meaning.specs.Culprit.{Culprit}
 use Rattle.meaning.specs.Logic.{Fails}
-use Rattle.book.specs.Book.{Book, StepLine}
-use Rattle.listing_rules.specs.Rules.{Rule, compiles, mon}
+use Rattle.encoding.specs.Encoding.{monitorsBase}
+use Rattle.book.specs.Book.{Book, StepLine, countIn}
+use Rattle.listing_line.specs.Plan.{planLine}
+use Rattle.listing_rules.specs.Rules.{Rule, compiles, mon, encodingFor}
 use Rattle.listing_head.specs.Head.{rulesText}
 use Rattle.listing_reports.specs.Reports.{Report, bookReports, kindsOf, endCount}
 use Rattle.listing_reports.specs.Tail.{reportLines, endLine}
@@ -84,6 +86,9 @@ Ascending (p ∷ ps) = ((q : Report) → q ∈ ps → Earlier p q) × Ascending 
 -- its `report` lines are those of a list of reports, in order, that holds what is asked for and nothing else
 pub record Listed (text : List ℕ) (b : Book) : Type 0 where
   pub found : List Report
-  pub prints : listing text ≡ rulesText (ruleAt b) (length (b .labels)) ++ (reportLines found ++ endLine (endCount (kindsOf (ruleAt b)) found))
+  pub prints :
+      listing text ≡ rulesText (monitorsBase (countIn (b .states)) (b .widths)) (ruleAt b) (length (b .labels))
+      ++ (planLine (encodingFor (countIn (b .states)) (b .widths) (ruleAt b) (length (b .labels)))
+      ++ (reportLines found ++ endLine (endCount (kindsOf (ruleAt b)) found)))
   pub says : (p : Report) → (p ∈ found) ↔ Says (ruleAt b) (length (b .labels)) (b .steps) (truthsOf (b .steps)) p
   pub ascending : Ascending found

@@ -15,9 +15,9 @@ module _ (ops nums firsts counts nodes nfirsts ncounts refusals starts bits : Li
   pub told-refused : (getD refusals r 0 ≡ 0 → ⊥) → ToldRule ops nums firsts counts nodes nfirsts ncounts refusals starts bits r (Refused (getD refusals r 0))
   unfolding compilingOf
   told-refused e = record {
-    is = λ R n t p h.
+    is = λ base R n t p h.
         ap Refused (t .refused r h)
-        ∙ sym (ap (λ (b : Bool). pick b (Compiled (firstBitOf R n r) (bitsOf (R r)) (firstBelow (likeOf R r) r)) (Refused (refusal (R r)))) (other-refused t r h e));
+        ∙ sym (ap (λ (b : Bool). pick b (Compiled (firstBitOf base R n r) (bitsOf (R r)) (firstBelow (likeOf R r) r)) (Refused (refusal (R r)))) (other-refused t r h e));
   }
 
   module _ (e : getD refusals r 0 ≡ 0) where
@@ -35,9 +35,9 @@ module _ (ops nums firsts counts nodes nfirsts ncounts refusals starts bits : Li
         → ToldRule ops nums firsts counts nodes nfirsts ncounts refusals starts bits r (Compiled (getD starts r 0) (getD bits r 0) a)
     unfolding compilingOf
     told-compiled a w = record {
-      is = λ R n t p h.
+      is = λ base R n t p h.
           let c : compiles (R r) ≡ true = zero-compiles t r h e in
           ap₂ (λ (x y : ℕ). Compiled x y a) (p .start r h c) (p .bit r h c)
-          ∙ ap (Compiled (firstBitOf R n r) (bitsOf (R r))) (w .is R n t h c)
-          ∙ sym (ap (λ (b : Bool). pick b (Compiled (firstBitOf R n r) (bitsOf (R r)) (firstBelow (likeOf R r) r)) (Refused (refusal (R r)))) c);
+          ∙ ap (Compiled (firstBitOf base R n r) (bitsOf (R r))) (w .is R n t h c)
+          ∙ sym (ap (λ (b : Bool). pick b (Compiled (firstBitOf base R n r) (bitsOf (R r)) (firstBelow (likeOf R r) r)) (Refused (refusal (R r)))) c);
     }

@@ -1,5 +1,5 @@
 -- The rules of a book, numbered from 0 in book order, and what document 01 says of each: its compiled node or its refusal, its first bit and its
--- bits, the first earlier rule that is alike.
+-- bits, the first earlier rule that is alike. The monitors begin at bit `base` (document 02, order 1).
 use mathlib.Core.Bool.{Bool, true, false, _&&_}
 use mathlib.Core.List.{List, [], _∷_}
 use Prim.Native.Nat.{ℕ, zero, suc}
@@ -10,6 +10,8 @@ use Rattle.monitor.specs.Mon.{Mon}
 use Rattle.monitor.specs.Compile.{ruleFaults, ruleNode}
 use Rattle.plan.specs.Layout.{bits}
 use Rattle.plan.specs.Book.{firstBit}
+use Rattle.encoding.specs.declared.ConfigEncoding.{ConfigEncoding}
+use Rattle.encoding.specs.Encoding.{encodingOf}
 use Rattle.alike.specs.Alike.{alikeMon}
 use Rattle.listing_line.specs.declared.rule.Alike.{Alike}
 use Rattle.listing_line.specs.declared.rule.Alike.the-variants.{To, Nothing}
@@ -51,8 +53,12 @@ mon q = ruleNode (q .formula) (q .first)
 abbrev pub bitsOf : Rule → ℕ
 bitsOf q = bits (mon q)
 
-unfoldable pub firstBitOf : (ℕ → Rule) → ℕ → ℕ → ℕ
-firstBitOf R n r = firstBit 0 n (λ (q : ℕ). property (R q)) (λ (q : ℕ). compiles (R q)) (λ (q : ℕ). bitsOf (R q)) r
+unfoldable pub firstBitOf : ℕ → (ℕ → Rule) → ℕ → ℕ → ℕ
+firstBitOf base R n r = firstBit base n (λ (q : ℕ). property (R q)) (λ (q : ℕ). compiles (R q)) (λ (q : ℕ). bitsOf (R q)) r
+
+-- the numbers of a configuration with a count of states, slots of widths ws, and the first n rules
+unfoldable pub encodingFor : ℕ → List ℕ → (ℕ → Rule) → ℕ → ConfigEncoding
+encodingFor count ws R n = encodingOf count ws n (λ (q : ℕ). compiles (R q)) (λ (q : ℕ). bitsOf (R q))
 
 -- ---- likeness
 -- rule q compiles and is like rule r
@@ -70,8 +76,8 @@ firstBelow like zero = Nothing
 firstBelow like (suc r) = orAt (firstBelow like r) (like r) r
 
 -- ---- the four last fields of a rule's line
-unfoldable pub compilingOf : (ℕ → Rule) → ℕ → ℕ → Compiling
-compilingOf R n r =
+unfoldable pub compilingOf : ℕ → (ℕ → Rule) → ℕ → ℕ → Compiling
+compilingOf base R n r =
     pick (compiles (R r))
-    (Compiled (firstBitOf R n r) (bitsOf (R r)) (firstBelow (likeOf R r) r))
+    (Compiled (firstBitOf base R n r) (bitsOf (R r)) (firstBelow (likeOf R r) r))
     (Refused (refusal (R r)))

@@ -1,7 +1,7 @@
 -- How lent tables hold a book's rules.
 --     Held      the rule list and the formula table hold the rules
 --     Tabled    besides, one node table holds the compiled rules one behind the other
---     Placed    besides, first bits and bits stand in their lists
+--     Placed    besides, first bits and bits stand in their lists, the monitors beginning at bit `base`
 use mathlib.Core.Bool.{Bool, true}
 use mathlib.Core.List.{List}
 use mathlib.Core.Option.{some}
@@ -40,8 +40,8 @@ pub record Tabled (ops nums firsts counts nodes nfirsts ncounts refusals : List 
   pub apart : (q r : ℕ) → q < r → r < n → compiles (R q) ≡ true → compiles (R r) ≡ true → getD nfirsts q 0 + getD ncounts q 0 ≤ getD nfirsts r 0
 
 -- first bits and bits of the rules that compile
-pub record Placed (R : ℕ → Rule) (n : ℕ) (starts bits : List ℕ) : Type 0 where
+pub record Placed (base : ℕ) (R : ℕ → Rule) (n : ℕ) (starts bits : List ℕ) : Type 0 where
   pub in-starts : bookRules ≤ length starts
   pub in-bits : bookRules ≤ length bits
-  pub start : (r : ℕ) → r < n → compiles (R r) ≡ true → getD starts r 0 ≡ firstBitOf R n r
+  pub start : (r : ℕ) → r < n → compiles (R r) ≡ true → getD starts r 0 ≡ firstBitOf base R n r
   pub bit : (r : ℕ) → r < n → compiles (R r) ≡ true → getD bits r 0 ≡ bitsOf (R r)

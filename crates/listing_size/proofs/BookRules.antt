@@ -14,7 +14,7 @@ use Rattle.formula.specs.Tree.{size}
 use Rattle.formula.specs.Table.{ruleOf}
 use Rattle.formula.proofs.Rules.{rule-of, rule-inv}
 use Rattle.book.specs.Book.{Book, accepted, read}
-use Rattle.reader.specs.BookTables.{BookTables, cells, written, readInto}
+use Rattle.reader.specs.BookTables.{BookTables, SlotTables, cells, written, readInto}
 use Rattle.reader.specs.Answer.{Roomy}
 use Rattle.reader.proofs.Sounds.{Sound, Short}
 use Rattle.reader.proofs.Columns.{over-long, cells-long}
@@ -97,12 +97,12 @@ cells-at (x ∷ xs) l (suc r) s h k =
     ∙ cells-at xs (drop 32 l) r (s .1) (omega arith) (omega (arith, length-drop 32 l))
 
 -- ---- the tables that reading leaves
-module _ (text : List ℕ) (t : BookTables) (b : Book) (e : readInto text t ≡ accepted b) where
+module _ (text : List ℕ) (t : BookTables) (u : SlotTables) (b : Book) (e : readInto text t u ≡ accepted b) where
   roomed : Roomy t
-  roomed = roomy-is t (into-accepted text t b e .0)
+  roomed = roomy-is t (into-accepted text t u b e .0)
 
   done : Done b
-  done = accepted-done text b (into-accepted text t b e .1)
+  done = accepted-done text b (into-accepted text t u b e .1)
 
   sound : Sound b
   sound = done .sound
@@ -114,7 +114,7 @@ module _ (text : List ℕ) (t : BookTables) (b : Book) (e : readInto text t ≡ 
   book-held o m =
       let s : Sound b = sound in
       let room : Roomy t = roomed in
-      let u : Stacked 0 (length (b .ops)) (b .firsts) (b .counts) = done .stacked in
+      let st : Stacked 0 (length (b .ops)) (b .firsts) (b .counts) = done .stacked in
       record {
         few = s .few;
         ops-long = over-long (b .ops) (t .ops) (omega (arith, s .less)) ∙ o;
@@ -130,7 +130,7 @@ module _ (text : List ℕ) (t : BookTables) (b : Book) (e : readInto text t ≡ 
           over-at (b .firsts) (t .firsts) r (omega (arith, h, s .firsts-long)),
           over-at (b .counts) (t .counts) r (omega (arith, h, s .counts-long)),
           over-at (b .firsts) (t .firsts) (r + 1) (omega (arith, h, s .firsts-long)),
-          stacked-next 0 (length (b .ops)) (b .firsts) (b .counts) r u (omega (arith, h, s .firsts-long)),
+          stacked-next 0 (length (b .ops)) (b .firsts) (b .counts) r st (omega (arith, h, s .firsts-long)),
         );
       }
 
@@ -148,7 +148,7 @@ module _ (text : List ℕ) (t : BookTables) (b : Book) (e : readInto text t ≡ 
 
   -- its place is within the first 2,048 bytes, and these within the table
   pub label-inside : (r : ℕ) → r < length (b .labels) → 32 * r + getD (written b t .lens) r 0 ≤ 2048
-  label-inside r h = omega (arith, len-held r h, book-label text b (into-accepted text t b e .1) r h, sound .few)
+  label-inside r h = omega (arith, len-held r h, book-label text b (into-accepted text t u b e .1) r h, sound .few)
 
   pub labels-long : 2048 ≤ length (written b t .labels)
   unfolding written

@@ -1,14 +1,18 @@
 -- THE SIZE OF A LISTING. The listing of any text, a book or not, fits in `listingRoom` bytes.
---     listing-most    a sharper bound: 211 bytes a rule, 104 a formula node, 71 a report, 25 for the last line
+--     listing-most    a sharper bound: 211 bytes a rule, 104 a formula node, 110 for `plan`, 71 a report, 25 for the last line
 use mathlib.Core.Path.{_≡_, refl, ap}
 use mathlib.Core.List.{List, [], _∷_, _++_}
 use Prim.Native.Nat.{ℕ, zero, suc, _+_, _*_, _≤_, _<_}
 use native.Mathlib.Omega.{arith}
 use native.Mathlib.Numerals.{add-one}
 use lib.ListN.{length, getD, length-append}
-use Rattle.book.specs.Book.{Book, Outcome, accepted, refused, read}
+use Rattle.encoding.specs.Encoding.{monitorsBase}
+use Rattle.encoding.specs.declared.ConfigEncoding.{ConfigEncoding}
+use Rattle.book.specs.Book.{Book, countIn, Outcome, accepted, refused, read}
 use Rattle.number.specs.Digits.{decimal}
 use Rattle.text.specs.Tape.{signed}
+use Rattle.listing_line.specs.Plan.{planWord, planLine}
+use Rattle.listing_rules.specs.Rules.{encodingFor}
 use Rattle.listing_head.specs.Head.{upto, ruleText, rulesText}
 use Rattle.listing_reports.specs.Reports.{freshStates, Report, bookReports, kindsOf, endCount}
 use Rattle.listing_reports.specs.Tail.{reportWord, reportLine, reportLines, endLine, refusedLine}
@@ -49,6 +53,18 @@ end-short : (n : ℕ) → length (endLine n) ≤ 25
 unfolding endLine
 end-short n = omega (arith, line-long (101 ∷ 110 ∷ 100 ∷ []) (decimal n ∷ []), decimal-short n)
 
+plan-short : (e : ConfigEncoding) → length (planLine e) ≤ 110
+unfolding planLine
+plan-short e = omega (
+  arith,
+  line-long planWord (decimal (e .«state_bits») ∷ decimal (e .«vars_bits») ∷ decimal (e .«monitors_bits») ∷ decimal (e .«total_bits») ∷ decimal (e .«total_bytes») ∷ []),
+  decimal-short (e .«state_bits»),
+  decimal-short (e .«vars_bits»),
+  decimal-short (e .«monitors_bits»),
+  decimal-short (e .«total_bits»),
+  decimal-short (e .«total_bytes»),
+)
+
 refused-short : (n k : ℕ) → length (refusedLine n k) ≤ 50
 unfolding refusedLine
 refused-short n k = omega (arith, line-long (114 ∷ 101 ∷ 102 ∷ 117 ∷ 115 ∷ 101 ∷ 100 ∷ []) (decimal n ∷ decimal k ∷ []), decimal-short n, decimal-short k)
@@ -69,39 +85,43 @@ module _ (text : List ℕ) (b : Book) (e : read text ≡ accepted b) where
   all-nodes zero h = omega arith
   all-nodes (suc r) h = omega (arith, before r (omega arith), book-inside text b e r (omega arith), few-nodes text b e)
 
-  rules-short : length (rulesText (ruleAt b) (length (b .labels))) ≤ 211 * length (b .labels) + 104 * 1024
+  rules-short : (base : ℕ) → length (rulesText base (ruleAt b) (length (b .labels))) ≤ 211 * length (b .labels) + 104 * 1024
   unfolding rulesText count
-  rules-short = omega (
+  rules-short base = omega (
     arith,
-    upto-short (ruleText (ruleAt b) (length (b .labels))) count (length (b .labels)) one,
+    upto-short (ruleText base (ruleAt b) (length (b .labels))) count (length (b .labels)) one,
     all-nodes (length (b .labels)) (omega arith),
   )
     where
-      one : (r : ℕ) → r < length (b .labels) → length (ruleText (ruleAt b) (length (b .labels)) r) ≤ 211 + 104 * count r
-      one r h = omega (arith, rule-text-short (ruleAt b) (length (b .labels)) r (book-label text b e r h), book-size text b e r h)
+      one : (r : ℕ) → r < length (b .labels) → length (ruleText base (ruleAt b) (length (b .labels)) r) ≤ 211 + 104 * count r
+      one r h = omega (arith, rule-text-short base (ruleAt b) (length (b .labels)) r (book-label text b e r h), book-size text b e r h)
 
-  accepted-short : length (rulesListing (ruleAt b) (length (b .labels)) (b .steps)) ≤ 124569
+  accepted-short : length (rulesListing (countIn (b .states)) (b .widths) (ruleAt b) (length (b .labels)) (b .steps)) ≤ 124679
   unfolding rulesListing
   accepted-short =
       let n : ℕ = length (b .labels) in
       let ps : List Report = bookReports (ruleAt b) n (b .steps) in
       let k : ℕ = endCount (kindsOf (ruleAt b)) ps in
+      let base : ℕ = monitorsBase (countIn (b .states)) (b .widths) in
+      let p : ConfigEncoding = encodingFor (countIn (b .states)) (b .widths) (ruleAt b) n in
       omega (
         arith,
-        length-append (rulesText (ruleAt b) n) (reportLines ps ++ endLine k),
+        length-append (rulesText base (ruleAt b) n) (planLine p ++ (reportLines ps ++ endLine k)),
+        length-append (planLine p) (reportLines ps ++ endLine k),
         length-append (reportLines ps) (endLine k),
-        rules-short,
+        rules-short base,
+        plan-short p,
         reports-short ps,
         end-short k,
         report-once (ruleAt b) n (freshStates (ruleAt b)) 0 (b .steps),
         few-rules text b e,
       )
 
-outcome-short : (text : List ℕ) (o : Outcome) → read text ≡ o → length (listingOf o) ≤ 124569
+outcome-short : (text : List ℕ) (o : Outcome) → read text ≡ o → length (listingOf o) ≤ 124679
 outcome-short text (accepted b) e = accepted-short text b e
 outcome-short text (refused n k) e = omega (arith, refused-short n k)
 
-pub listing-most : (text : List ℕ) → length (listing text) ≤ 124569
+pub listing-most : (text : List ℕ) → length (listing text) ≤ 124679
 unfolding listing
 listing-most text = outcome-short text (read text) refl
 

@@ -250,14 +250,14 @@ nodes-text-short q = go (compiles q)
     go true = nodes-short (q .formula) (q .first) allOf false 0
     go false = omega arith
 
-pub rule-text-short : (R : ℕ → Rule) (n r : ℕ) → length (R r .label) ≤ 32 → length (ruleText R n r) ≤ 211 + 104 * size (R r .formula)
+pub rule-text-short : (base : ℕ) (R : ℕ → Rule) (n r : ℕ) → length (R r .label) ≤ 32 → length (ruleText base R n r) ≤ 211 + 104 * size (R r .formula)
 unfolding ruleText liveText owesText
-rule-text-short R n r h = omega (
+rule-text-short base R n r h = omega (
   arith,
-  length-append (ruleLine r (R r .label) (R r .kind) (compilingOf R n r)) (nodesText (R r) ++ (liveText (R r) ++ owesText (R r))),
+  length-append (ruleLine r (R r .label) (R r .kind) (compilingOf base R n r)) (nodesText (R r) ++ (liveText (R r) ++ owesText (R r))),
   length-append (nodesText (R r)) (liveText (R r) ++ owesText (R r)),
   length-append (liveText (R r)) (owesText (R r)),
-  rule-line-short r (R r .label) (R r .kind) (compilingOf R n r) h,
+  rule-line-short r (R r .label) (R r .kind) (compilingOf base R n r) h,
   nodes-text-short (R r),
   split-short (bool.not (property (R r))) (R r .formula) (R r .first),
 )

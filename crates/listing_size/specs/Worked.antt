@@ -45,6 +45,7 @@ whole = record {
       "rule\t0\ttrip\tP\t0\t0\t3\t-" ∷
       "node\t0\tB\t3\t0\t*\tv0\tv1" ∷
       "live\tnone\t-" ∷
+      "plan\t0\t0\t3\t3\t1" ∷
       "report\t2\t0\t0" ∷
       "end\t1" ∷
       [];
@@ -83,6 +84,7 @@ three-rules = record {
       "rule\t2\tagain\tP\t0\t1\t1\t1" ∷
       "node\t0\tD\t-\t1\t*\ti0\to1" ∷
       "live\tnone\t-" ∷
+      "plan\t0\t0\t5\t5\t1" ∷
       "report\t1\t1\t-1" ∷
       "report\t1\t2\t-1" ∷
       "end\t2" ∷
@@ -108,6 +110,7 @@ joined-node = record {
       "node\t1\tC\t-\t0\t*\t|!v10!i63\t-" ∷
       "node\t2\tC\t-\t0\t3\to2\t-" ∷
       "live\tnone\t-" ∷
+      "plan\t0\t0\t0\t0\t0" ∷
       "end\t0" ∷
       [];
 }
@@ -141,6 +144,7 @@ liveness = record {
       "owe\t1\tU\ti2\t>o3v4" ∷
       "rule\t1\tmixed\tP\t19\t-\t-\t-" ∷
       "live\t23\t-" ∷
+      "plan\t0\t0\t0\t0\t0" ∷
       "end\t0" ∷
       [];
 }
@@ -153,7 +157,34 @@ abbrev pub field-missing : Worked
 field-missing = record { book = "step\t0\t0000000000000001" ∷ "step\t1" ∷ []; lists = "refused\t5\t2" ∷ [] }
 
 abbrev pub no-lines : Worked
-no-lines = record { book = []; lists = "end\t0" ∷ [] }
+no-lines = record { book = []; lists = "plan\t0\t0\t0\t0\t0" ∷ "end\t0" ∷ [] }
+
+-- document 02, order 1: five states take 3 bits, the slots 10 more, and the rule's 3 follow from bit 13
+abbrev pub opened : Worked
+opened = record {
+  book =
+      "states\t5" ∷
+      "slot\tdepth\t10" ∷
+      "slot\twet\t0" ∷
+      "rule\ttrip\tP" ∷
+      "always" ∷
+      "implies" ∷
+      "var\t0" ∷
+      "within\t3" ∷
+      "var\t1" ∷
+      [];
+  lists =
+      "rule\t0\ttrip\tP\t0\t13\t3\t-" ∷
+      "node\t0\tB\t3\t0\t*\tv0\tv1" ∷
+      "live\tnone\t-" ∷
+      "plan\t3\t10\t3\t16\t2" ∷
+      "end\t0" ∷
+      [];
+}
+
+-- 25 before 7: a `states` line that is not the first
+abbrev pub late-states : Worked
+late-states = record { book = "slot\ta\t1" ∷ "states\tx" ∷ []; lists = "refused\t25\t2" ∷ [] }
 
 abbrev pub others : List Worked
-others = three-rules ∷ joined-node ∷ liveness ∷ unfinished ∷ field-missing ∷ no-lines ∷ []
+others = opened ∷ late-states ∷ three-rules ∷ joined-node ∷ liveness ∷ unfinished ∷ field-missing ∷ no-lines ∷ []

@@ -7,7 +7,7 @@ use native.Mathlib.Omega.{arith}
 use lib.ListN.{length, drop, length-drop}
 use Rattle.line.specs.Text.{lines}
 use Rattle.line.proofs.Parts.{lines-few}
-use Rattle.line.specs.Line.{rule, node, step, Line, bad, wrong, right, parse}
+use Rattle.line.specs.Line.{rule, node, step, states, slot, Line, bad, wrong, right, parse}
 use Rattle.line.proofs.Sane.{SaneLine, parse-sane}
 use Rattle.book.specs.Book.{StepLine}
 use Rattle.result.specs.Result.{given}
@@ -27,6 +27,8 @@ before-below (wrong o f) r h = tt
 before-below (right (rule l k)) r h = tt
 before-below (right (node op v)) r h = tt
 before-below (right (step s w)) r h = h
+before-below (right (states c)) r h = tt
+before-below (right (slot l w)) r h = tt
 
 steps-below : (ls : List (List ℕ)) → Below (stepsOf ls)
 unfolding stepsOf

@@ -1,5 +1,5 @@
 -- Document 01, "The listing": from a book's bytes to the bytes that cavewatch prints.
---     listing    rules, reports, `end`; or the one `refused` line
+--     listing    rules, `plan` (document 02, order 1), reports, `end`; or the one `refused` line
 use mathlib.Core.List.{List, [], _++_}
 use mathlib.Core.Option.{Option, none, some}
 use Prim.Native.Nat.{ℕ}
@@ -7,14 +7,18 @@ use lib.ListN.{length, getD}
 use Rattle.formula.specs.Tree.{leaf}
 use Rattle.formula.specs.Formula.{Formula, var}
 use Rattle.formula.specs.Table.{ruleOf}
-use Rattle.book.specs.Book.{Book, StepLine, Outcome, accepted, refused, read}
-use Rattle.listing_rules.specs.Rules.{Rule}
+use Rattle.encoding.specs.Encoding.{monitorsBase}
+use Rattle.book.specs.Book.{Book, StepLine, countIn, Outcome, accepted, refused, read}
+use Rattle.listing_line.specs.Plan.{planLine}
+use Rattle.listing_rules.specs.Rules.{Rule, encodingFor}
 use Rattle.listing_head.specs.Head.{rulesText}
 use Rattle.listing_reports.specs.Reports.{bookReports, kindsOf}
 use Rattle.listing_reports.specs.Tail.{tailText, refusedLine}
 
-unfoldable pub rulesListing : (ℕ → Rule) → ℕ → List StepLine → List ℕ
-rulesListing R n steps = rulesText R n ++ tailText (kindsOf R) (bookReports R n steps)
+-- with a count of states and slots of widths ws before the monitors
+unfoldable pub rulesListing : ℕ → List ℕ → (ℕ → Rule) → ℕ → List StepLine → List ℕ
+rulesListing count ws R n steps =
+    rulesText (monitorsBase count ws) R n ++ (planLine (encodingFor count ws R n) ++ tailText (kindsOf R) (bookReports R n steps))
 
 -- rule r of a book. (Each rule of an accepted book is a formula, so the atom is never taken: `book-rules`, crate listing_size)
 abbrev pub formulaOr : Option Formula → Formula
@@ -30,7 +34,7 @@ ruleAt b r = record {
 }
 
 abbrev pub listingOf : Outcome → List ℕ
-listingOf (accepted b) = rulesListing (ruleAt b) (length (b .labels)) (b .steps)
+listingOf (accepted b) = rulesListing (countIn (b .states)) (b .widths) (ruleAt b) (length (b .labels)) (b .steps)
 listingOf (refused n k) = refusedLine n k
 
 unfoldable pub listing : List ℕ → List ℕ

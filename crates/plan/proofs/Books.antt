@@ -63,27 +63,27 @@ counted-more chosen bits r s b c d = record {
   most = omega (arith, c .most, d .most);
 }
 
-pub record Tallied (kinds refusals nodes nfirsts ncounts : List ℕ) (n sum r : ℕ) : Type 0 where
+pub record Tallied (kinds refusals nodes nfirsts ncounts : List ℕ) (n : ℕ) (kind : Bool) (sum r : ℕ) : Type 0 where
   pub rowed : Rowed kinds refusals nodes nfirsts ncounts n
   pub below : r ≤ n
-  pub so-far : Counted (properties (isZero kinds) (isZero refusals)) (partBits nodes nfirsts ncounts) r sum
+  pub so-far : Counted (ofKind kind (isZero kinds) (isZero refusals)) (partBits nodes nfirsts ncounts) r sum
 
-module _ (kinds refusals nodes nfirsts ncounts : List ℕ) (n : ℕ) where
-  pub tallied-none : Rowed kinds refusals nodes nfirsts ncounts n → Tallied kinds refusals nodes nfirsts ncounts n 0 0
+module _ (kinds refusals nodes nfirsts ncounts : List ℕ) (n : ℕ) (kind : Bool) where
+  pub tallied-none : Rowed kinds refusals nodes nfirsts ncounts n → Tallied kinds refusals nodes nfirsts ncounts n kind 0 0
   tallied-none w = record { rowed = w; below = omega arith; so-far = counted-none _ _ }
 
-  module _ (sum r : ℕ) (t : Tallied kinds refusals nodes nfirsts ncounts n sum r) where
+  module _ (sum r : ℕ) (t : Tallied kinds refusals nodes nfirsts ncounts n kind sum r) where
     pub tallied-rowed : Rowed kinds refusals nodes nfirsts ncounts n
     tallied-rowed = t .rowed
 
-    pub tallied-all : n ≤ r → Counted (properties (isZero kinds) (isZero refusals)) (partBits nodes nfirsts ncounts) n sum
-    tallied-all h = subst (λ (k : ℕ). Counted (properties (isZero kinds) (isZero refusals)) (partBits nodes nfirsts ncounts) k sum) (omega (arith, t .below)) (t .so-far)
+    pub tallied-all : n ≤ r → Counted (ofKind kind (isZero kinds) (isZero refusals)) (partBits nodes nfirsts ncounts) n sum
+    tallied-all h = subst (λ (k : ℕ). Counted (ofKind kind (isZero kinds) (isZero refusals)) (partBits nodes nfirsts ncounts) k sum) (omega (arith, t .below)) (t .so-far)
 
-    module _ (h : r < n) (b : ℕ) (d : Chosen (properties (isZero kinds) (isZero refusals)) (partBits nodes nfirsts ncounts) r b) where
+    module _ (h : r < n) (b : ℕ) (d : Chosen (ofKind kind (isZero kinds) (isZero refusals)) (partBits nodes nfirsts ncounts) r b) where
       pub tallied-fits : Fits w64 (sum + b)
       tallied-fits = record { fits = omega (arith, t .so-far .most, d .most, t .rowed .few) }
 
-      pub tallied-more : Tallied kinds refusals nodes nfirsts ncounts n (sum + b) (r + 1)
+      pub tallied-more : Tallied kinds refusals nodes nfirsts ncounts n kind (sum + b) (r + 1)
       tallied-more = record { rowed = t .rowed; below = omega arith; so-far = counted-more _ _ r sum b (t .so-far) d }
 
 -- ---- one rule's values, stored
@@ -124,7 +124,11 @@ unfolding listed
 listed-length f zero = refl
 listed-length f (suc r) = length-append (listed f r) (f r ∷ []) ∙ omega (arith, listed-length f r)
 
-fill-more : (old : List ℕ) (g : ℕ → ℕ) (r v : ℕ) → v ≡ g r → set (sets old 0 (listed g r)) r v ≡ sets old 0 (listed g (r + 1))
+pub fill-none : (old : List ℕ) (g : ℕ → ℕ) → sets old 0 (listed g 0) ≡ old
+unfolding listed
+fill-none old g = refl
+
+pub fill-more : (old : List ℕ) (g : ℕ → ℕ) (r v : ℕ) → v ≡ g r → set (sets old 0 (listed g r)) r v ≡ sets old 0 (listed g (r + 1))
 unfolding listed
 fill-more old g r v e =
     ap₂ (λ (k w : ℕ). set (sets old 0 (listed g r)) k w) (sym (zero-add (length (listed g r)) ∙ listed-length g r)) e

@@ -1,5 +1,5 @@
 -- Document 01, "Layout", over a book: properties come first, then assumptions, each in book order; rules that do not compile are skipped. The
--- first rule's bits begin at bit `base`, which document 01 has as 0.
+-- first rule's bits begin at bit `base`: 0 in document 01, behind the state and the slots in document 02, order 1.
 -- A book is given by what is known of rule r: whether it is a property, whether it compiles, and its bits.
 use mathlib.Core.Bool.{Bool, true, false, _&&_, not}
 use mathlib.Core.List.{List, [], _∷_, _++_}

@@ -11,7 +11,7 @@ ghost use Rattle.terms.specs.Kinds.{propertyKind};
 ghost use Rattle.plan.specs.Width.{ceilLog2, width};
 ghost use Rattle.plan.specs.Layout.{slotIn};
 ghost use Rattle.plan.specs.Rows.{pieceOf, rowPieces, Breadth, Summed, RowsPart};
-ghost use Rattle.plan.specs.Book.{asked, ofKind, properties, isZero, partBits, Rowed, Chosen, Counted, Stored, Arranged};
+ghost use Rattle.plan.specs.Book.{asked, ofKind, isZero, partBits, Rowed, Chosen, Counted, Stored, Arranged};
 
 // The bits of one node: of the pending flag, of the remaining count, of the remembered antecedent.
 pub struct Piece {
@@ -152,23 +152,24 @@ fn chosen_bits(
     0
 }
 
-// The bits of all properties that compile.
-fn property_bits(
+// The bits of all properties that compile, or else of all assumptions that do.
+pub fn kind_bits(
     kinds: &[u8],
     refusals: &[u64],
     nodes: &[u64],
     nfirsts: &[usize],
     ncounts: &[usize],
     n: usize,
+    property: bool,
 ) -> u64
     requires { ⌜ Rowed (now kinds) (now refusals) (now nodes) (now nfirsts) (now ncounts) n ⌝ }
-    ensures { λ b. ⌜ Counted (properties (isZero (now (kinds .entry))) (isZero (now (refusals .entry))))
+    ensures { λ b. ⌜ Counted (ofKind property (isZero (now (kinds .entry))) (isZero (now (refusals .entry))))
         (partBits (now (nodes .entry)) (now (nfirsts .entry)) (now (ncounts .entry))) n b ⌝ }
 {
     let mut sum: u64 = 0;
     let mut r: usize = 0;
     while r < n {
-        sum += chosen_bits(kinds, refusals, nodes, nfirsts, ncounts, n, r, true);
+        sum += chosen_bits(kinds, refusals, nodes, nfirsts, ncounts, n, r, property);
         r += 1;
     }
     sum
@@ -219,7 +220,7 @@ pub fn arrange(
         (now (bits .exit)) ⌝ }
 {
     let mut x: u64 = 0;
-    let mut y: u64 = property_bits(kinds, refusals, nodes, nfirsts, ncounts, n);
+    let mut y: u64 = kind_bits(kinds, refusals, nodes, nfirsts, ncounts, n, true);
     let mut r: usize = 0;
     while r < n {
         let p = chosen_bits(kinds, refusals, nodes, nfirsts, ncounts, n, r, true);

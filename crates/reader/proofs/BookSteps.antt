@@ -14,7 +14,7 @@ use lib.ListN.{length, take, drop, length-drop, drop-of-length-le}
 use lib.Seq.{drop-drop, length-take-le}
 use Rattle.terms.specs.Choice.{pick}
 use Rattle.line.specs.Text.{lines, parts, firstAt, Found}
-use Rattle.line.specs.Line.{Content, rule, node, step, Line, bad, wrong, right, parse}
+use Rattle.line.specs.Line.{Content, rule, node, step, states, slot, Line, bad, wrong, right, parse}
 use Rattle.line.specs.Means.{held, means, LineIs}
 use Rattle.line.specs.declared.line.Content as held-type
 use Rattle.line.specs.declared.line.Content.the-variants as contents
@@ -23,7 +23,7 @@ use Rattle.line.specs.declared.line.Line.the-variants as code-lines
 use Rattle.line.proofs.line.Content as content-type
 use Rattle.line.proofs.line.Line as line-type
 use Rattle.line.proofs.Parts.{lines-next, lines-none, first-inside}
-use Rattle.book.specs.Book.{Book, StepLine, empty, isNil, whole, Fault, stands, fault, add, addLine, Outcome, accepted, refused, unless, readOn, ended, read}
+use Rattle.book.specs.Book.{Book, StepLine, empty, isNil, whole, opening, Fault, stands, fault, add, addLine, Outcome, accepted, refused, unless, readOn, ended, read}
 use Rattle.result.specs.Result.{given}
 use Rattle.reader.specs.Steps.{stepIn, asStep, Next, nextAt, nextIn, nextStep, resultOf, before, stepsOf, stepsFrom}
 use Rattle.reader.specs.declared.steps.StepRead.the-variants.{Step, End}
@@ -69,13 +69,15 @@ module _ (text rest : List ℕ) (at n : ℕ) (e : rest ≡ drop at text) (f : Fo
       pub next-step : (s w : ℕ) → c ≡ contents.Step s w → resultOf (Step s w (at + (n + 1))) ≡ given (nextStep text at)
       next-step s w z = sym (ap given (next-held ∙ ap (λ (x : held-type.Content). nextAt (stepIn (held first x)) (at + (n + 1))) z))
 
-      pub next-other : OneOf (0 ∷ 1 ∷ []) (tagOf content-type.the-type c) → resultOf End ≡ given (nextStep text at)
+      pub next-other : OneOf (0 ∷ 1 ∷ 3 ∷ 4 ∷ []) (tagOf content-type.the-type c) → resultOf End ≡ given (nextStep text at)
       next-other z = sym (ap given (next-held ∙ ap (λ (x : Option StepLine). nextAt x (at + (n + 1))) (go c z)))
         where
-          go : (m : held-type.Content) → OneOf (0 ∷ 1 ∷ []) (tagOf content-type.the-type m) → stepIn (held first m) ≡ none
+          go : (m : held-type.Content) → OneOf (0 ∷ 1 ∷ 3 ∷ 4 ∷ []) (tagOf content-type.the-type m) → stepIn (held first m) ≡ none
           go (contents.Rule a b c) k = refl
           go (contents.Node a b) k = refl
-          go (contents.Step a b) k = absurd (miss (0 ∷ 1 ∷ []) 2 tt k)
+          go (contents.Step a b) k = absurd (miss (0 ∷ 1 ∷ 3 ∷ 4 ∷ []) 2 tt k)
+          go (contents.States a) k = refl
+          go (contents.Slot a b c) k = refl
 
 -- ---- and the steps from there on
 abbrev pub handed : List ℕ → Option Next → List StepLine
@@ -158,10 +160,17 @@ pub record StepOn (n : ℕ) (b : Book) (l : Line) (r : List StepLine) : Type 0 w
   pub head : addLine n b l .head ≡ b .head
   pub steps : addLine n b l .steps ++ r ≡ b .steps ++ before (asStep l) r
 
+-- an opening line stands before all steps
+opened-yet : (n : ℕ) (b : Book) (c : Content) → opening b ≡ true → isNil (b .steps) ≡ true
+unfolding opening
+opened-yet n b c e = both {a = isNil (b .labels)} {b = isNil (b .steps)} e .1
+
 step-on : (n : ℕ) (b : Book) (c : Content) (r : List StepLine) → Stepping b → Passed b c → StepOn n b (right c) r
 unfolding add stands
 step-on n b (rule l k) r s p = true-false (sym (both {a = whole b} {b = isNil (b .steps)} (p .here) .1) ∙ s .steps)
 step-on n b (node op v) r s p = true-false (sym (p .here) ∙ ap not (s .whole))
+step-on n b (states c) r s p = true-false (sym (opened-yet n b (states c) (p .here)) ∙ s .steps)
+step-on n b (slot l w) r s p = true-false (sym (opened-yet n b (slot l w) (p .here)) ∙ s .steps)
 step-on n b (step u w) r s p = record { stepping = begun n b u w p; head = refl; steps = append-assoc (b .steps) (record { number = u; truths = w } ∷ []) r }
 
 pub ends : (b c : Book) (k : ℕ) → readOn b k [] ≡ accepted c → b ≡ c
@@ -202,6 +211,8 @@ begins : (n : ℕ) (b : Book) (c : Content) → b .steps ≡ [] → Passed b c �
 unfolding add
 begins n b (rule l k) s p = mathlib.Core.Logic.inr (record { steps = s; head = refl })
 begins n b (node op v) s p = mathlib.Core.Logic.inr (record { steps = s; head = refl })
+begins n b (states c) s p = mathlib.Core.Logic.inr (record { steps = s; head = refl })
+begins n b (slot l w) s p = mathlib.Core.Logic.inr (record { steps = s; head = refl })
 begins n b (step u w) s p = mathlib.Core.Logic.inl (record {
   stepping = begun n b u w p;
   head = refl;

@@ -11,7 +11,7 @@ use types.Run.{OneOf, miss}
 use denote.Enum.Declared.{tagOf}
 use lib.ListN.{length, getD, take, drop, set, length-set}
 use lib.Seq.{paste, paste-zero, paste-suc, take-length, length-paste}
-use Rattle.line.specs.Line.{Content, rule, node, step, Line, bad, wrong, right, parse}
+use Rattle.line.specs.Line.{Content, rule, node, step, states, slot, Line, bad, wrong, right, parse}
 use Rattle.line.specs.Means.{held, means, labelIn, inLine, LineIs}
 use Rattle.line.specs.declared.line.Sort.{Sort}
 use Rattle.line.specs.declared.line.Flaw.{Flaw}
@@ -54,10 +54,10 @@ copy-long dst₀ at src dst j c = c .long
 
 -- ---- a line
 module _ (line : List ℕ) (l : code.Line) (is : LineIs line l) where
-  -- a line with no content leaves everything
-  pub line-none : (t : BookTables) (f : Tally) → OneOf (0 ∷ 1 ∷ []) (tagOf line-type.the-type l) → LinePut line t f t f
+  -- a line with no content is not right
+  pub line-right : OneOf (0 ∷ 1 ∷ []) (tagOf line-type.the-type l) → (c : Content) → parse line ≡ right c → ⊥
   unfolding means
-  line-none t f h = record { left = λ c e. absurd (other l h c (is .holds ∙ e)) }
+  line-right h c e = other l h c (is .holds ∙ e)
     where
       bad-right : {c : Content} → bad ≡ right c → ⊥
       bad-right z = let y : _≡_ {A = ℕ} 0 1 = cc in omega arith
@@ -69,6 +69,10 @@ module _ (line : List ℕ) (l : code.Line) (is : LineIs line l) where
       other lines.Bad k c e = bad-right e
       other (lines.Wrong o f) k c e = wrong-right e
       other (lines.Right x) k c e = absurd (miss (0 ∷ 1 ∷ []) 2 tt k)
+
+  -- and leaves everything
+  pub line-none : (t : BookTables) (f : Tally) → OneOf (0 ∷ 1 ∷ []) (tagOf line-type.the-type l) → LinePut line t f t f
+  line-none t f h = record { left = λ c e. absurd (line-right h c e) }
 
   module _ (x : held-type.Content) (e : l ≡ lines.Right x) where
     line-held : parse line ≡ right (held line x)
@@ -83,6 +87,12 @@ module _ (line : List ℕ) (l : code.Line) (is : LineIs line l) where
 
     pub line-kept : (t : BookTables) (f : Tally) (s w : ℕ) → x ≡ contents.Step s w → LinePut line t f t f
     line-kept t f s w q = only t f t f (subst (λ (y : held-type.Content). LeftBy (held line y) t f t f) (sym q) (record { tables = refl; fill = refl }))
+
+    pub line-states : (t : BookTables) (f : Tally) (c : ℕ) → x ≡ contents.States c → LinePut line t f t f
+    line-states t f c q = only t f t f (subst (λ (y : held-type.Content). LeftBy (held line y) t f t f) (sym q) (record { tables = refl; fill = refl }))
+
+    pub line-slot : (t : BookTables) (f : Tally) (start len w : ℕ) → x ≡ contents.Slot start len w → LinePut line t f t f
+    line-slot t f start len w q = only t f t f (subst (λ (y : held-type.Content). LeftBy (held line y) t f t f) (sym q) (record { tables = refl; fill = refl }))
 
     module _ (start len kind : ℕ) (k : x ≡ contents.Rule start len kind) where
       rule-in : start + len ≤ length line

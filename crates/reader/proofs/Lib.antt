@@ -6,4 +6,5 @@ pub mod Runs
 pub mod Answers
 pub mod BookSteps
 pub mod Loops
+pub mod OpeningPass
 pub mod StepsOfBook

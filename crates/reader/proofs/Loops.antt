@@ -12,7 +12,7 @@ use lib.ListN.{length, take, drop, length-drop, drop-of-length-le}
 use Rattle.terms.specs.Choice.{pick}
 use Rattle.number.proofs.Numbers.{below-or}
 use Rattle.line.specs.Text.{lines, parts, Found}
-use Rattle.line.specs.Line.{Content, rule, node, step, Line, bad, wrong, right, parse}
+use Rattle.line.specs.Line.{Content, rule, node, step, states, slot, Line, bad, wrong, right, parse}
 use Rattle.book.specs.Book.{Book, empty, isNil, lastOf, stands, Fault, fault, add, addLine, accepted, unless, readOn, read}
 use Rattle.book.proofs.Checks.{read-line}
 use Rattle.reader.specs.BookTables.{BookTables, over, cells, written}
@@ -31,6 +31,8 @@ head-grows n b (wrong o f) = omega arith
 head-grows n b (right (rule l k)) = omega arith
 head-grows n b (right (node op v)) = omega arith
 head-grows n b (right (step u w)) = omega arith
+head-grows n b (right (states c)) = omega arith
+head-grows n b (right (slot l w)) = omega arith
 
 head-later : (b c : Book) (k : ℕ) (ls : List (List ℕ)) → readOn b k ls ≡ accepted c → b .head ≤ c .head
 unfolding readOn
@@ -80,12 +82,16 @@ rest-same b c k (l ∷ ls) e h =
         by (step x y) a =
             let s : Same (add (length l + 1) b (step x y)) c = ih (add (length l + 1) b (step x y)) a h in
             record { labels = s .labels; kinds = s .kinds; firsts = s .firsts; counts = s .counts; ops = s .ops; nums = s .nums }
+        by (states x) a = absurd (omega (arith, head-later (add (length l + 1) b (states x)) c (k + 1) ls a))
+        by (slot x y) a = absurd (omega (arith, head-later (add (length l + 1) b (slot x y)) c (k + 1) ls a))
 
 -- a line before the place where the steps begin is none
 head-on : (n : ℕ) (b c : Book) (k : ℕ) (ls : List (List ℕ)) (q : Content) → Passed b q → readOn (add n b q) k ls ≡ accepted c → b .head < c .head → add n b q .head ≡ b .head + n
 unfolding add stands
 head-on n b c k ls (rule x y) p a h = refl
 head-on n b c k ls (node x y) p a h = refl
+head-on n b c k ls (states x) p a h = refl
+head-on n b c k ls (slot x y) p a h = refl
 head-on n b c k ls (step x y) p a h = absurd (omega (arith, later (add n b (step x y)) c k ls (begun n b x y p) a .0))
 
 -- ---- the loop

@@ -10,12 +10,12 @@ use lib.Dec.{leb}
 use lib.ListN.{length, set, length-append}
 use Rattle.terms.specs.Choice.{pick}
 use Rattle.line.specs.Text.{lines}
-use Rattle.line.specs.Line.{Content, rule, node, step, parse}
+use Rattle.line.specs.Line.{Content, rule, node, step, states, slot, parse}
 use Rattle.line.proofs.Sane.{Sane}
 use Rattle.book.specs.Book.{Book, empty, lastOf, Fault, add, Outcome, accepted, refused, unless, readOn, ended, read}
 use Rattle.book.proofs.States.{last-snoc, last-bump}
-use Rattle.reader.specs.BookTables.{BookTables, columns, over, written, roomy}
-use Rattle.reader.specs.Answer.{Roomy}
+use Rattle.reader.specs.BookTables.{BookTables, SlotTables, columns, over, written, roomy, roomySlots}
+use Rattle.reader.specs.Answer.{Roomy, RoomySlots}
 use Rattle.reader.specs.FillingPass.{RoomFor, LeftBy, Kept, RuleDone, NodeDone}
 use Rattle.reader.specs.declared.fill.Tally.{Tally}
 use Rattle.reader.proofs.Sounds.{both, Passed, label-short, rules-left, nodes-left, node-inside, Sound}
@@ -43,6 +43,13 @@ roomy-is t e =
       ops = leb-true _ _ g;
       nums = leb-true _ _ h;
     }
+
+pub roomy-slots-is : (u : SlotTables) → roomySlots u ≡ true → RoomySlots u
+unfolding roomySlots
+roomy-slots-is u e =
+    let (a, e1) = and-true (leb 1024 (length (u .names))) _ e in
+    let (b, c) = and-true (leb 32 (length (u .lens))) (leb 32 (length (u .widths))) e1 in
+    record { names = leb-true _ _ a; lens = leb-true _ _ b; widths = leb-true _ _ c }
 
 pub record Tallied (b : Book) (f : Tally) : Type 0 where
   pub rules : f .rules ≡ length (b .labels)
@@ -108,7 +115,7 @@ unless-none none k r b e = (refl, e)
 unless-none (some f) k r b e = accepted-refused e
 
 -- ---- lengths
-map-long : (xs : List (List ℕ)) → length (map length xs) ≡ length xs
+pub map-long : (xs : List (List ℕ)) → length (map length xs) ≡ length xs
 map-long [] = refl
 map-long (x ∷ xs) = ap suc (map-long xs)
 
@@ -156,6 +163,8 @@ module _ (b : Book) (t : BookTables) (s : Sound b) (r : Roomy t) where
     own = omega (arith, a .own, nodes-left b op v p .0);
   }
   room-by f (step u w) a h p = tt
+  room-by f (states c) a h p = tt
+  room-by f (slot l w) a h p = tt
 
   module _ (n : ℕ) (f f′ : Tally) (t′ : BookTables) (a : Tallied b f) where
     -- the tables hold the book with the content added, and the counts are its own
@@ -215,7 +224,23 @@ module _ (b : Book) (t : BookTables) (s : Sound b) (r : Roomy t) where
       subst (Tallied (add n b (step u w))) (sym (d .fill)) (record { rules = a .rules; nodes = a .nodes; own = a .own }),
     )
 
+    states-after : (c : ℕ) → Kept (written b t) f t′ f′ → After (states c)
+    unfolding written add
+    states-after c d = (
+      d .tables,
+      subst (Tallied (add n b (states c))) (sym (d .fill)) (record { rules = a .rules; nodes = a .nodes; own = a .own }),
+    )
+
+    slot-after : (l : List ℕ) (w : ℕ) → Kept (written b t) f t′ f′ → After (slot l w)
+    unfolding written add
+    slot-after l w d = (
+      d .tables,
+      subst (Tallied (add n b (slot l w))) (sym (d .fill)) (record { rules = a .rules; nodes = a .nodes; own = a .own }),
+    )
+
     pub line-after : (c : Content) → Sane c → Passed b c → LeftBy c (written b t) f t′ f′ → After c
     line-after (rule l k) h p d = rule-after l k (label-short l (h .label)) p d
     line-after (node op v) h p d = node-after op v p d
     line-after (step u w) h p d = step-after u w d
+    line-after (states c) h p d = states-after c d
+    line-after (slot l w) h p d = slot-after l w d

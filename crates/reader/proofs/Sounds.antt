@@ -9,9 +9,9 @@ use borrow.Author.Tests.{leb-true, ltb-true}
 use lib.Dec.{leb, ltb}
 use lib.ListN.{length, length-append}
 use Rattle.terms.specs.Choice.{pick}
-use Rattle.line.specs.Line.{Content, rule, node, step, sortOf, Line, bad, wrong, right, isLabel, printable, parse}
+use Rattle.line.specs.Line.{Content, rule, node, step, states, slot, sortOf, Line, bad, wrong, right, isLabel, printable, parse}
 use Rattle.line.proofs.Sane.{Sane, SaneLine, parse-sane}
-use Rattle.book.specs.Book.{Book, empty, isNil, whole, headOf, lastOf, bump, Fault, place, field, limit, orElse, stands, within, firstFault, fault, add, addLine}
+use Rattle.book.specs.Book.{Book, empty, isNil, whole, headOf, lastOf, bump, Fault, place, unopened, field, limit, orElse, stands, opens, within, firstFault, fault, add, addLine}
 use Rattle.book.proofs.States.{bump-length}
 
 pub both : {a b : Bool} → (a && b) ≡ true → (a ≡ true) × (b ≡ true)
@@ -29,6 +29,7 @@ some-none e = let z : _≡_ {A = ℕ} 0 1 = cc in absurd (omega arith)
 
 pub record Passed (b : Book) (c : Content) : Type 0 where
   pub here : stands b (sortOf c) ≡ true
+  pub opened : opens b (sortOf c) ≡ true
   pub limits : within b (sortOf c) ≡ true
 
 -- its content, which passes the tests by sort
@@ -40,19 +41,25 @@ pub record PassedLine (b : Book) (l : Line) : Type 0 where
 pub passed : (b : Book) (l : Line) → fault b l ≡ none → PassedLine b l
 unfolding fault firstFault
 passed b bad e = some-none e
-passed b (wrong o f) e = go (stands b o) e
+passed b (wrong o f) e = go (stands b o) (opens b o) e
   where
-    go : (t : Bool) → orElse (pick t none (some place)) (some (field f)) ≡ none → PassedLine b (wrong o f)
-    go true e = some-none e
-    go false e = some-none e
-passed b (right c) e = go (stands b (sortOf c)) refl (within b (sortOf c)) refl e
+    go : (t v : Bool) → orElse (pick t none (some place)) (orElse (pick v none (some unopened)) (some (field f))) ≡ none → PassedLine b (wrong o f)
+    go true true e = some-none e
+    go true false e = some-none e
+    go false v e = some-none e
+passed b (right c) e = go (stands b (sortOf c)) refl (opens b (sortOf c)) refl (within b (sortOf c)) refl e
   where
-    go : (t : Bool) → stands b (sortOf c) ≡ t → (u : Bool) → within b (sortOf c) ≡ u
-        → orElse (pick t none (some place)) (orElse (pick u none (some limit)) none) ≡ none
+    go : (t : Bool) → stands b (sortOf c) ≡ t → (v : Bool) → opens b (sortOf c) ≡ v → (u : Bool) → within b (sortOf c) ≡ u
+        → orElse (pick t none (some place)) (orElse (pick v none (some unopened)) (orElse (pick u none (some limit)) none)) ≡ none
         → PassedLine b (right c)
-    go true p true q e = record { content = c; is = refl; passed = record { here = p; limits = q } }
-    go true p false q e = some-none e
-    go false p u q e = some-none e
+    go true p true w true q e = record { content = c; is = refl; passed = record { here = p; opened = w; limits = q } }
+    go true p true w false q e = some-none e
+    go true p false w u q e = some-none e
+    go false p v w u q e = some-none e
+
+pub slots-left : (b : Book) (l : List ℕ) (w : ℕ) → Passed b (slot l w) → length (b .names) < 32
+unfolding opens
+slots-left b l w p = ltb-true _ _ (p .opened)
 
 pub rules-left : (b : Book) (l : List ℕ) (k : ℕ) → Passed b (rule l k) → length (b .labels) < 64
 unfolding within
@@ -100,6 +107,9 @@ pub record Sound (b : Book) : Type 0 where
   pub less : length (b .ops) ≤ 1024
   pub begun : isNil (b .due) ≡ false → 1 ≤ length (b .labels)
   pub short : Short (b .labels)
+  pub widths-long : length (b .widths) ≡ length (b .names)
+  pub slots-few : length (b .names) ≤ 32
+  pub names-short : Short (b .names)
 
 true-false : {A : Type 0} → true ≡ false → A
 true-false e = let z : _≡_ {A = ℕ} 0 1 = cc in absurd (omega arith)
@@ -114,6 +124,9 @@ sound-empty = record {
   less = omega arith;
   begun = λ e. true-false e;
   short = tt;
+  widths-long = refl;
+  slots-few = omega arith;
+  names-short = tt;
 }
 
 sound-by : (n : ℕ) (b : Book) (c : Content) → Sound b → Sane c → Passed b c → Sound (add n b c)
@@ -127,6 +140,9 @@ sound-by n b (rule l k) s h p = record {
   less = s .less;
   begun = λ _. omega (arith, length-append (b .labels) (l ∷ []));
   short = short-snoc (b .labels) l (s .short) (label-short l (h .label));
+  widths-long = s .widths-long;
+  slots-few = s .slots-few;
+  names-short = s .names-short;
 }
 sound-by n b (node op v) s h p = record {
   kinds-long = s .kinds-long;
@@ -137,6 +153,9 @@ sound-by n b (node op v) s h p = record {
   less = omega (arith, length-append (b .ops) (op ∷ []), nodes-left b op v p .1);
   begun = λ _. s .begun (node-inside b op v p);
   short = s .short;
+  widths-long = s .widths-long;
+  slots-few = s .slots-few;
+  names-short = s .names-short;
 }
 sound-by n b (step u w) s h p = record {
   kinds-long = s .kinds-long;
@@ -147,6 +166,35 @@ sound-by n b (step u w) s h p = record {
   less = s .less;
   begun = s .begun;
   short = s .short;
+  widths-long = s .widths-long;
+  slots-few = s .slots-few;
+  names-short = s .names-short;
+}
+sound-by n b (states c) s h p = record {
+  kinds-long = s .kinds-long;
+  firsts-long = s .firsts-long;
+  counts-long = s .counts-long;
+  nums-long = s .nums-long;
+  few = s .few;
+  less = s .less;
+  begun = s .begun;
+  short = s .short;
+  widths-long = s .widths-long;
+  slots-few = s .slots-few;
+  names-short = s .names-short;
+}
+sound-by n b (slot l w) s h p = record {
+  kinds-long = s .kinds-long;
+  firsts-long = s .firsts-long;
+  counts-long = s .counts-long;
+  nums-long = s .nums-long;
+  few = s .few;
+  less = s .less;
+  begun = s .begun;
+  short = s .short;
+  widths-long = length-append (b .widths) (w ∷ []) ∙ omega (arith, length-append (b .names) (l ∷ []), s .widths-long);
+  slots-few = omega (arith, length-append (b .names) (l ∷ []), slots-left b l w p);
+  names-short = short-snoc (b .names) l (s .names-short) (label-short l (h .name));
 }
 
 pub sound-add : (n : ℕ) (b : Book) (l : List ℕ) → Sound b → fault b (parse l) ≡ none → Sound (addLine n b (parse l))

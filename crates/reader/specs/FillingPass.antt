@@ -4,10 +4,10 @@ use mathlib.Core.Bool.{true}
 use mathlib.Core.List.{List, [], _∷_, _++_}
 use Prim.Native.Nat.{ℕ, suc, _+_, _-_, _*_, _≤_, _<_}
 use lib.ListN.{length, take, drop, set}
-use Rattle.terms.specs.Limits.{bookNodes, bookRules, labelBytes, labelsRoom, ruleNodes}
-use Rattle.line.specs.Line.{Content, rule, node, step, right, parse}
+use Rattle.terms.specs.Limits.{bookNodes, bookRules, bookSlots, labelBytes, labelsRoom, namesRoom, ruleNodes}
+use Rattle.line.specs.Line.{Content, rule, node, step, states, slot, right, parse}
 use Rattle.book.specs.Book.{Book, accepted, read}
-use Rattle.reader.specs.BookTables.{BookTables, written, roomy}
+use Rattle.reader.specs.BookTables.{BookTables, SlotTables, written, slotsWritten, roomy, roomySlots}
 use Rattle.reader.specs.declared.fill.Tally.{Tally}
 
 -- a list with another written into it from a place on
@@ -50,11 +50,13 @@ pub record NodePut (counts ops nums : List ℕ) (op num : ℕ) (f : Tally) (coun
   pub nodes-is : r .nodes ≡ f .nodes + 1
   pub own-is : r .own ≡ f .own + 1
 
--- a line's room and what it leaves, by what it holds; a step stays in the text
+-- a line's room and what it leaves, by what it holds; a step stays in the text, and the opening lines have a pass of their own
 abbrev pub RoomFor : Content → BookTables → Tally → Type 0
 RoomFor (rule l k) t f = RuleRoom (t .labels) (t .lens) (t .kinds) (t .firsts) (t .counts) l f
 RoomFor (node op v) t f = NodeRoom (t .counts) (t .ops) (t .nums) f
 RoomFor (step s w) t f = Unit
+RoomFor (states c) t f = Unit
+RoomFor (slot l w) t f = Unit
 
 -- nothing has changed
 pub record Kept (t : BookTables) (f : Tally) (t′ : BookTables) (f′ : Tally) : Type 0 where
@@ -77,6 +79,8 @@ abbrev pub LeftBy : Content → BookTables → Tally → BookTables → Tally �
 LeftBy (rule l k) t f t′ f′ = RuleDone l k t f t′ f′
 LeftBy (node op v) t f t′ f′ = NodeDone op v t f t′ f′
 LeftBy (step s w) t f t′ f′ = Kept t f t′ f′
+LeftBy (states c) t f t′ f′ = Kept t f t′ f′
+LeftBy (slot l w) t f t′ f′ = Kept t f t′ f′
 
 pub record LineRoom (line : List ℕ) (t : BookTables) (f : Tally) : Type 0 where
   pub room : (c : Content) → parse line ≡ right c → RoomFor c t f
@@ -93,3 +97,55 @@ pub record Fillable (text : List ℕ) (head : ℕ) (t : BookTables) : Type 0 whe
 
 pub record FilledTables (text : List ℕ) (t t′ : BookTables) : Type 0 where
   pub is : (b : Book) → read text ≡ accepted b → t′ ≡ written b t
+
+-- ---- the slots
+pub record SlotRoom (names lens widths name : List ℕ) (k : ℕ) : Type 0 where
+  pub in-names : namesRoom ≤ length names
+  pub in-lens : bookSlots ≤ length lens
+  pub in-widths : bookSlots ≤ length widths
+  pub few : k < bookSlots
+  pub short : length name ≤ labelBytes
+
+pub record SlotPut (names lens widths name : List ℕ) (width k : ℕ) (names′ lens′ widths′ : List ℕ) : Type 0 where
+  pub names-is : names′ ≡ placed names (labelBytes * k) name
+  pub lens-is : lens′ ≡ set lens k (length name)
+  pub widths-is : widths′ ≡ set widths k width
+
+-- a slot's line fills its place, any other leaves everything
+abbrev pub SlotRoomFor : Content → SlotTables → ℕ → Type 0
+SlotRoomFor (rule l v) u k = Unit
+SlotRoomFor (node op v) u k = Unit
+SlotRoomFor (step s w) u k = Unit
+SlotRoomFor (states c) u k = Unit
+SlotRoomFor (slot l w) u k = SlotRoom (u .names) (u .lens) (u .widths) l k
+
+pub record SlotsKept (u : SlotTables) (k : ℕ) (u′ : SlotTables) (k′ : ℕ) : Type 0 where
+  pub tables : u′ ≡ u
+  pub count : k′ ≡ k
+
+pub record SlotDone (l : List ℕ) (w : ℕ) (u : SlotTables) (k : ℕ) (u′ : SlotTables) (k′ : ℕ) : Type 0 where
+  pub put : SlotPut (u .names) (u .lens) (u .widths) l w k (u′ .names) (u′ .lens) (u′ .widths)
+  pub count : k′ ≡ k + 1
+
+abbrev pub SlotLeftBy : Content → SlotTables → ℕ → SlotTables → ℕ → Type 0
+SlotLeftBy (rule l v) u k u′ k′ = SlotsKept u k u′ k′
+SlotLeftBy (node op v) u k u′ k′ = SlotsKept u k u′ k′
+SlotLeftBy (step s w) u k u′ k′ = SlotsKept u k u′ k′
+SlotLeftBy (states c) u k u′ k′ = SlotsKept u k u′ k′
+SlotLeftBy (slot l w) u k u′ k′ = SlotDone l w u k u′ k′
+
+pub record SlotLineRoom (line : List ℕ) (u : SlotTables) (k : ℕ) : Type 0 where
+  pub room : (c : Content) → parse line ≡ right c → SlotRoomFor c u k
+
+pub record SlotLinePut (line : List ℕ) (u : SlotTables) (k : ℕ) (u′ : SlotTables) (k′ : ℕ) : Type 0 where
+  pub left : (c : Content) → parse line ≡ right c → SlotLeftBy c u k u′ k′
+
+-- the book is accepted, so many slots are its own, and there is room for them; they are then written
+pub record SlotsFillable (text : List ℕ) (slots : ℕ) (u : SlotTables) : Type 0 where
+  pub book : Book
+  pub is : read text ≡ accepted book
+  pub many : slots ≡ length (book .names)
+  pub room : roomySlots u ≡ true
+
+pub record FilledSlots (text : List ℕ) (u u′ : SlotTables) : Type 0 where
+  pub is : (b : Book) → read text ≡ accepted b → u′ ≡ slotsWritten b u

@@ -10,7 +10,7 @@ use lib.ListN.{length, take, drop}
 use Rattle.terms.specs.Choice.{pick}
 use Rattle.result.specs.Result.{Result, given}
 use Rattle.line.specs.Text.{lines, firstAt}
-use Rattle.line.specs.Line.{Content, rule, node, step, Line, bad, wrong, right, parse}
+use Rattle.line.specs.Line.{Content, rule, node, step, states, slot, Line, bad, wrong, right, parse}
 use Rattle.book.specs.Book.{StepLine}
 use Rattle.reader.specs.declared.steps.StepRead.{StepRead}
 use Rattle.reader.specs.declared.steps.StepRead.the-variants.{Step, End}
@@ -20,6 +20,8 @@ abbrev pub stepIn : Content → Option StepLine
 stepIn (rule l k) = none
 stepIn (node op v) = none
 stepIn (step s w) = some (record { number = s; truths = w })
+stepIn (states c) = none
+stepIn (slot l w) = none
 
 abbrev pub asStep : Line → Option StepLine
 asStep bad = none

@@ -20,7 +20,7 @@ pub struct Tally {
 }
 
 // All of src into dst from a place on.
-fn copy_in(dst: &mut [u8], at: usize, src: &[u8])
+pub(crate) fn copy_in(dst: &mut [u8], at: usize, src: &[u8])
     requires { ⌜ at + length (now src) ≤ length (now dst) ⌝ }
     ensures { λ _. ⌜ now (dst .exit) ≡ placed (now (dst .entry)) at (now (src .entry)) ⌝ }
 {
@@ -118,6 +118,12 @@ fn put_line(
         }
         Content::Node { op, num } => put_node(counts, ops, nums, op, num, f),
         Content::Step { step: _, truths: _ } => f,
+        Content::States { count: _ } => f,
+        Content::Slot {
+            start: _,
+            len: _,
+            width: _,
+        } => f,
     }
 }
 

@@ -5,6 +5,7 @@ use layout::book::BookLayout;
 use layout::book::layout;
 use terms::limit::BOOK_NODES;
 use terms::limit::BOOK_RULES;
+use terms::limit::BOOK_SLOTS;
 ghost use Prim.Native.Nat.{_≤_, _<_};
 ghost use Rattle.terms.specs.Limits.{bookRules};
 
@@ -63,7 +64,14 @@ pub(crate) fn compile_rules(
     }
 }
 
-// First bits and bits of the first n rules: 0, or the refusal.
+// What a book opens with: its count of states, and its slots' widths, the first `slots` of them.
+pub(crate) struct Opening {
+    pub count: u64,
+    pub slots: usize,
+    pub widths: [u64; BOOK_SLOTS],
+}
+
+// First bits and bits of the first n rules, and the first bits of the slots.
 pub(crate) fn lay_out(
     ops: &[u8],
     nums: &[u64],
@@ -74,10 +82,13 @@ pub(crate) fn lay_out(
     ncounts: &[usize; BOOK_RULES],
     refusals: &[u64; BOOK_RULES],
     n: usize,
+    opening: Opening,
     starts: &mut [u64],
     bits: &mut [u64],
-) -> u64 {
-    match layout(
+    places: &mut [u64],
+) -> BookLayout {
+    let widths = opening.widths;
+    layout(
         ops,
         nums,
         firsts,
@@ -88,10 +99,11 @@ pub(crate) fn lay_out(
         kinds,
         refusals,
         n,
+        opening.count,
+        &widths,
+        opening.slots,
         starts,
         bits,
-    ) {
-        BookLayout::Refused(m) => m,
-        BookLayout::Done => 0,
-    }
+        places,
+    )
 }

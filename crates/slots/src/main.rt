@@ -1,18 +1,23 @@
 // slots: reads a book on standard input, compiles each rule and prints what the calls on compiled rules answer, by tabs:
-// `rule`, number, first bit and bits by `layout`, bits by `layout_for`; `slot`, rule, node, offset, bits of the pending flag, of the remaining
+// `plan` and its five numbers, `var`, a slot's number, first bit and width, by `layout`; `rule`, number, first bit and bits by `layout`, bits by `layout_for`; `slot`, rule, node, offset, bits of the pending flag, of the remaining
 // count, of the remembered antecedent, by `node_slot`; `alike`, two rules, by `alike`; or `refused`, number and line of a refused book. Calls that
 // are to be refused are made too, and write nothing.
 mod compile;
 mod misuse;
 mod show;
 
+use crate::compile::Opening;
 use crate::compile::compile_rules;
 use crate::compile::lay_out;
 use crate::misuse::try_misuse;
 use crate::show::show_alike;
 use crate::show::show_number;
+use crate::show::show_plan;
 use crate::show::show_refused;
 use crate::show::show_rules;
+use crate::show::show_vars;
+use book::state::state_count;
+use layout::book::BookLayout;
 use libc::STDIN_FILENO;
 use libc::STDOUT_FILENO;
 use reader::read::Answer;
@@ -20,7 +25,9 @@ use reader::read::read_book;
 use terms::limit::BOOK_CELLS;
 use terms::limit::BOOK_NODES;
 use terms::limit::BOOK_RULES;
+use terms::limit::BOOK_SLOTS;
 use terms::limit::LABELS_ROOM;
+use terms::limit::NAMES_ROOM;
 ghost use Prim.Native.Nat.{_≤_};
 ghost use Rattle.terms.specs.Limits.{bookRules};
 
@@ -35,12 +42,14 @@ fn run_compiled(
     ncounts: &[usize; BOOK_RULES],
     refusals: &[u64; BOOK_RULES],
     n: usize,
+    opening: Opening,
 )
     requires { ⌜ n ≤ bookRules ⌝ }
 {
     let mut starts = [0u64; BOOK_RULES];
     let mut bits = [0u64; BOOK_RULES];
-    let refused = lay_out(
+    let mut places = [0u64; BOOK_SLOTS];
+    let answer = lay_out(
         ops,
         nums,
         kinds,
@@ -50,12 +59,17 @@ fn run_compiled(
         ncounts,
         refusals,
         n,
+        opening,
         &mut starts,
         &mut bits,
+        &mut places,
     );
-    if refused != 0 {
-        show_refused(b"layout", refused);
+    match answer {
+        BookLayout::Refused(m) => show_refused(b"layout", m),
+        BookLayout::Done(e) => show_plan(e),
     }
+    let widths = opening.widths;
+    show_vars(&places, &widths, opening.slots);
     show_rules(
         ops,
         nums,
@@ -79,6 +93,7 @@ fn run_rules(
     firsts: &[usize; BOOK_RULES],
     counts: &[usize; BOOK_RULES],
     n: usize,
+    opening: Opening,
 )
     requires { ⌜ n ≤ bookRules ⌝ }
 {
@@ -105,6 +120,7 @@ fn run_rules(
         &ncounts,
         &refusals,
         n,
+        opening,
     );
     try_misuse(
         ops,
@@ -116,6 +132,7 @@ fn run_rules(
         &ncounts,
         &mut refusals,
         n,
+        opening,
     );
 }
 
@@ -127,6 +144,9 @@ fn run_book(text: &[u8]) {
     let mut counts = [0usize; BOOK_RULES];
     let mut ops = [0u8; BOOK_NODES];
     let mut nums = [0u64; BOOK_NODES];
+    let mut names = [0u8; NAMES_ROOM];
+    let mut sizes = [0usize; BOOK_SLOTS];
+    let mut widths = [0u64; BOOK_SLOTS];
     let answer = read_book(
         text,
         &mut labels,
@@ -136,6 +156,9 @@ fn run_book(text: &[u8]) {
         &mut counts,
         &mut ops,
         &mut nums,
+        &mut names,
+        &mut sizes,
+        &mut widths,
     );
     match answer {
         Answer::Refused { number, line } => {
@@ -148,12 +171,19 @@ fn run_book(text: &[u8]) {
             rules,
             nodes: _,
             steps_at: _,
+            slots,
+            states,
         } => {
             if BOOK_RULES < rules {
                 show_refused(b"more than 64 rules", 2);
                 return;
             }
-            run_rules(&ops, &nums, &kinds, &firsts, &counts, rules);
+            let opening = Opening {
+                count: state_count(states),
+                slots,
+                widths,
+            };
+            run_rules(&ops, &nums, &kinds, &firsts, &counts, rules, opening);
         }
     }
 }

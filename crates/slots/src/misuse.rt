@@ -1,13 +1,16 @@
 // Calls that document 01 refuses by 2, made over the compiled rules of a book: a line is written only for one that answers otherwise.
+use crate::compile::Opening;
 use crate::compile::lay_out;
 use crate::show::part_at;
 use crate::show::show_refused;
 use alike::Likeness;
 use alike::Part;
 use alike::alike;
+use layout::book::BookLayout;
 use layout::rule::NodeSlot;
 use layout::rule::node_slot;
 use terms::limit::BOOK_RULES;
+use terms::limit::BOOK_SLOTS;
 ghost use Prim.Native.Nat.{_≤_, _<_};
 ghost use Rattle.terms.specs.Limits.{bookRules};
 
@@ -44,7 +47,7 @@ fn not_compiled(ops: &[u8], nums: &[u64], nodes: &[u64], a: Part) {
     }
 }
 
-// The layout of n rules with another refusal for a rule.
+// The layout of n rules, which something is wrong with.
 fn laid_out(
     ops: &[u8],
     nums: &[u64],
@@ -55,10 +58,12 @@ fn laid_out(
     ncounts: &[usize; BOOK_RULES],
     refusals: &[u64; BOOK_RULES],
     n: usize,
+    opening: Opening,
 ) {
     let mut starts = [0u64; BOOK_RULES];
     let mut bits = [0u64; BOOK_RULES];
-    let refused = lay_out(
+    let mut places = [0u64; BOOK_SLOTS];
+    let answer = lay_out(
         ops,
         nums,
         kinds,
@@ -68,10 +73,15 @@ fn laid_out(
         ncounts,
         refusals,
         n,
+        opening,
         &mut starts,
         &mut bits,
+        &mut places,
     );
-    show_other(b"layout", refused);
+    match answer {
+        BookLayout::Refused(m) => show_other(b"layout", m),
+        BookLayout::Done(_) => show_other(b"layout", 0),
+    }
 }
 
 // Rule r of n: as one that compiles where it does not, and the other way round.
@@ -86,6 +96,7 @@ fn try_rule(
     refusals: &mut [u64; BOOK_RULES],
     n: usize,
     r: usize,
+    opening: Opening,
 )
     requires { ⌜ r < 64 ⌝ }
 {
@@ -108,8 +119,76 @@ fn try_rule(
         ncounts,
         refusals,
         n,
+        opening,
     );
     refusals[r] = was;
+}
+
+// The layout of n rules with too many states, with 33 slots, and with a slot of 65 bits.
+fn try_opening(
+    ops: &[u8],
+    nums: &[u64],
+    kinds: &[u8],
+    firsts: &[usize; BOOK_RULES],
+    counts: &[usize; BOOK_RULES],
+    nodes: &[u64],
+    ncounts: &[usize; BOOK_RULES],
+    refusals: &[u64; BOOK_RULES],
+    n: usize,
+) {
+    let mut widths = [0u64; BOOK_SLOTS];
+    let states = Opening {
+        count: 65536,
+        slots: 0,
+        widths,
+    };
+    laid_out(
+        ops,
+        nums,
+        kinds,
+        firsts,
+        counts,
+        nodes,
+        ncounts,
+        refusals,
+        n,
+        states,
+    );
+    let many = Opening {
+        count: 0,
+        slots: 33,
+        widths,
+    };
+    laid_out(
+        ops,
+        nums,
+        kinds,
+        firsts,
+        counts,
+        nodes,
+        ncounts,
+        refusals,
+        n,
+        many,
+    );
+    widths[31] = 65;
+    let wide = Opening {
+        count: 65535,
+        slots: 32,
+        widths,
+    };
+    laid_out(
+        ops,
+        nums,
+        kinds,
+        firsts,
+        counts,
+        nodes,
+        ncounts,
+        refusals,
+        n,
+        wide,
+    );
 }
 
 // The calls over each of the n rules, and the layout of 65.
@@ -123,6 +202,7 @@ pub(crate) fn try_misuse(
     ncounts: &[usize; BOOK_RULES],
     refusals: &mut [u64; BOOK_RULES],
     n: usize,
+    opening: Opening,
 )
     requires { ⌜ n ≤ bookRules ⌝ }
 {
@@ -139,6 +219,7 @@ pub(crate) fn try_misuse(
             refusals,
             n,
             r,
+            opening,
         );
         r += 1;
     }
@@ -152,5 +233,17 @@ pub(crate) fn try_misuse(
         ncounts,
         refusals,
         65,
+        opening,
+    );
+    try_opening(
+        ops,
+        nums,
+        kinds,
+        firsts,
+        counts,
+        nodes,
+        ncounts,
+        refusals,
+        n,
     );
 }

@@ -2,12 +2,14 @@
 use alike::Likeness;
 use alike::Part;
 use alike::alike;
+use encoding::ConfigEncoding;
 use layout::rule::NodeSlot;
 use layout::rule::RuleBits;
 use layout::rule::layout_for;
 use layout::rule::node_slot;
 use libc::STDOUT_FILENO;
 use terms::limit::BOOK_RULES;
+use terms::limit::BOOK_SLOTS;
 ghost use Prim.Native.Nat.{_≤_, _<_};
 ghost use Rattle.terms.specs.Limits.{bookRules};
 
@@ -31,6 +33,33 @@ pub(crate) fn show_refused(call: &[u8], n: u64) {
     put(b" refused");
     show_number(n);
     put(b"\n");
+}
+
+// The numbers of the whole.
+pub(crate) fn show_plan(e: ConfigEncoding) {
+    put(b"plan");
+    show_number(e.state_bits);
+    show_number(e.vars_bits);
+    show_number(e.monitors_bits);
+    show_number(e.total_bits);
+    show_number(e.total_bytes);
+    put(b"\n");
+}
+
+// The first bits and widths of the first m slots.
+pub(crate) fn show_vars(places: &[u64; BOOK_SLOTS], widths: &[u64; BOOK_SLOTS], m: usize) {
+    let mut k: usize = 0;
+    while k < m {
+        if BOOK_SLOTS <= k {
+            return;
+        }
+        put(b"var");
+        show_place(k);
+        show_number(places[k]);
+        show_number(widths[k]);
+        put(b"\n");
+        k += 1;
+    }
 }
 
 // Rule r of the tables.

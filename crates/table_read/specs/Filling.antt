@@ -8,7 +8,7 @@ use Prim.Native.Nat.{ℕ, _≤_}
 use lib.ListN.{length}
 use Rattle.node_table.specs.Columns.{Inside, front}
 use Rattle.reader.specs.Answer.{Reads}
-use Rattle.reader.specs.BookTables.{BookTables}
+use Rattle.reader.specs.BookTables.{BookTables, SlotTables}
 use Rattle.reader.specs.declared.read.Answer.{Answer}
 use Rattle.reader.specs.declared.read.Answer.the-variants.{Read, Refused}
 use Rattle.table_read.specs.declared.Filling.{Filling}
@@ -28,13 +28,13 @@ withTable l ops nums = record { labels = l .labels; lens = l .lens; kinds = l .k
 
 -- the count of nodes in an answer
 abbrev pub nodesOf : Answer → ℕ
-nodesOf (Read rules nodes steps) = nodes
+nodesOf (Read rules nodes steps slots states) = nodes
 nodesOf (Refused number line) = 0
 
-pub record Fills (len : ℕ) (text : List ℕ) (l : RuleList) (r : Filling) (l′ : RuleList) : Type 0 where
+pub record Fills (len : ℕ) (text : List ℕ) (l : RuleList) (u : SlotTables) (r : Filling) (l′ : RuleList) (u′ : SlotTables) : Type 0 where
   pub reads : (ops nums : List ℕ)
       → length ops ≡ len
       → length nums ≡ len
-      → Reads text (withTable l ops nums) (r .answer) (withTable l′ (front (r .columns .count) (r .columns .ops) ops) (front (r .columns .count) (r .columns .nums) nums))
+      → Reads text (withTable l ops nums) u (r .answer) (withTable l′ (front (r .columns .count) (r .columns .ops) ops) (front (r .columns .count) (r .columns .nums) nums)) u′
   pub inside : Inside (r .columns)
   pub fits : r .columns .count ≤ len

@@ -10,7 +10,7 @@ ghost use mathlib.Core.Path.{_≡_};
 ghost use Rattle.node_table.specs.Node.{opsOf, numsOf};
 ghost use Rattle.reader.specs.Answer.{Reads};
 ghost use Rattle.table_read.specs.Filling.{Fills, nodesOf, rulesIn};
-ghost use Rattle.reader.specs.BookTables.{columns};
+ghost use Rattle.reader.specs.BookTables.{columns, slotColumns};
 
 // The answer, and the book's nodes in columns.
 pub struct Filling {
@@ -28,7 +28,7 @@ fn node_count(answer: Answer) -> usize
     }
 }
 
-// Reads a book into a rule list and into columns, for a formula table of `len` nodes.
+// Reads a book into a rule list, a slot list and columns, for a formula table of `len` nodes.
 fn read_columns(
     len: usize,
     text: &[u8],
@@ -37,10 +37,15 @@ fn read_columns(
     kinds: &mut [u8],
     firsts: &mut [usize],
     counts: &mut [usize],
+    names: &mut [u8],
+    sizes: &mut [usize],
+    widths: &mut [u64],
 ) -> Filling
     ensures { λ r. ⌜ Fills len (now (text .entry))
-        (rulesIn (now (labels .entry)) (now (lens .entry)) (now (kinds .entry)) (now (firsts .entry)) (now (counts .entry))) r
-        (rulesIn (now (labels .exit)) (now (lens .exit)) (now (kinds .exit)) (now (firsts .exit)) (now (counts .exit))) ⌝ }
+        (rulesIn (now (labels .entry)) (now (lens .entry)) (now (kinds .entry)) (now (firsts .entry)) (now (counts .entry)))
+        (slotColumns (now (names .entry)) (now (sizes .entry)) (now (widths .entry))) r
+        (rulesIn (now (labels .exit)) (now (lens .exit)) (now (kinds .exit)) (now (firsts .exit)) (now (counts .exit)))
+        (slotColumns (now (names .exit)) (now (sizes .exit)) (now (widths .exit))) ⌝ }
 {
     let mut ops = [0u8; BOOK_NODES];
     let mut nums = [0u64; BOOK_NODES];
@@ -62,6 +67,9 @@ fn read_columns(
         counts,
         &mut ops,
         &mut nums,
+        names,
+        sizes,
+        widths,
     );
     let columns = Columns {
         count: node_count(answer),
@@ -71,7 +79,7 @@ fn read_columns(
     Filling { answer, columns }
 }
 
-// Reads a book: its rules into the rule list, its nodes into the table's front.
+// Reads a book: its rules into the rule list, its nodes into the table's front, its slots into the slot list.
 pub fn read_table(
     text: &[u8],
     labels: &mut [u8],
@@ -80,14 +88,28 @@ pub fn read_table(
     firsts: &mut [usize],
     counts: &mut [usize],
     table: &mut [FormulaNode],
+    names: &mut [u8],
+    sizes: &mut [usize],
+    widths: &mut [u64],
 ) -> Answer
     ensures { λ r. ⌜ Reads (now (text .entry))
         (columns (now (labels .entry)) (now (lens .entry)) (now (kinds .entry)) (now (firsts .entry)) (now (counts .entry))
-        (opsOf (now (table .entry))) (numsOf (now (table .entry)))) r
+        (opsOf (now (table .entry))) (numsOf (now (table .entry)))) (slotColumns (now (names .entry)) (now (sizes .entry)) (now (widths .entry))) r
         (columns (now (labels .exit)) (now (lens .exit)) (now (kinds .exit)) (now (firsts .exit)) (now (counts .exit)) (opsOf (now (table .exit)))
-        (numsOf (now (table .exit)))) ⌝ }
+        (numsOf (now (table .exit)))) (slotColumns (now (names .exit)) (now (sizes .exit)) (now (widths .exit))) ⌝ }
 {
-    let f = read_columns(table.len(), text, labels, lens, kinds, firsts, counts);
+    let f = read_columns(
+        table.len(),
+        text,
+        labels,
+        lens,
+        kinds,
+        firsts,
+        counts,
+        names,
+        sizes,
+        widths,
+    );
     pack(table, f.columns);
     f.answer
 }

@@ -24,6 +24,21 @@ labelsRoom = 2048
 abbrev pub deepest : ℕ
 deepest = 64
 
+-- slots of a book (document 02, order 1), and the bytes of their names
+abbrev pub bookSlots : ℕ
+bookSlots = 32
+
+abbrev pub namesRoom : ℕ
+namesRoom = 1024
+
+-- counts of states lie below it
+abbrev pub stateCounts : ℕ
+stateCounts = 65536
+
+-- the most bits of a slot
+abbrev pub slotMost : ℕ
+slotMost = 64
+
 -- signals: bits of a word of truths
 abbrev pub signals : ℕ
 signals = 64

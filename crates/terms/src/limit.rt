@@ -17,6 +17,17 @@ pub const LABELS_ROOM: usize = 2048;
 // Depth of a formula, the root at depth 1.
 pub const DEEPEST: usize = 64;
 
+// Slots of a book (document 02, order 1), and the bytes of their names.
+pub const BOOK_SLOTS: usize = 32;
+
+pub const NAMES_ROOM: usize = 1024;
+
+// Counts of states lie below it.
+pub const STATES: u64 = 65536;
+
+// The most bits of a slot.
+pub const SLOT_MOST: u64 = 64;
+
 // Signals: bits of a word of truths.
 pub const SIGNALS: u64 = 64;
 

@@ -19,7 +19,9 @@ use stepping::fresh::Outcome;
 use stepping::fresh::fresh;
 use terms::limit::BOOK_NODES;
 use terms::limit::BOOK_RULES;
+use terms::limit::BOOK_SLOTS;
 use terms::limit::LABELS_ROOM;
+use terms::limit::NAMES_ROOM;
 use terms::limit::NODE_CELLS;
 use terms::limit::OWED_ROOM;
 use terms::limit::RULE_NODES;
@@ -334,6 +336,9 @@ fn run_book(text: &[u8]) {
     let mut counts = [0usize; BOOK_RULES];
     let mut ops = [0u8; BOOK_NODES];
     let mut nums = [0u64; BOOK_NODES];
+    let mut names = [0u8; NAMES_ROOM];
+    let mut sizes = [0usize; BOOK_SLOTS];
+    let mut widths = [0u64; BOOK_SLOTS];
     let answer = read_book(
         text,
         &mut labels,
@@ -343,6 +348,9 @@ fn run_book(text: &[u8]) {
         &mut counts,
         &mut ops,
         &mut nums,
+        &mut names,
+        &mut sizes,
+        &mut widths,
     );
     match answer {
         Answer::Refused { number, line } => {
@@ -353,6 +361,8 @@ fn run_book(text: &[u8]) {
             rules: _,
             nodes: _,
             steps_at,
+            slots: _,
+            states: _,
         } => run_rule(text, steps_at, &ops, &nums, firsts[0], counts[0]),
     }
 }

@@ -14,7 +14,9 @@ use reader::read::Answer;
 use split::parts::Liveness;
 use terms::limit::BOOK_NODES;
 use terms::limit::BOOK_RULES;
+use terms::limit::BOOK_SLOTS;
 use terms::limit::LABELS_ROOM;
+use terms::limit::NAMES_ROOM;
 use terms::limit::OWED_ROOM;
 use terms::limit::SKELETON_ROOM;
 
@@ -104,6 +106,9 @@ fn watch_book(text: &[u8]) {
     let mut kinds = [0u8; BOOK_RULES];
     let mut firsts = [0usize; BOOK_RULES];
     let mut counts = [0usize; BOOK_RULES];
+    let mut names = [0u8; NAMES_ROOM];
+    let mut sizes = [0usize; BOOK_SLOTS];
+    let mut widths = [0u64; BOOK_SLOTS];
     let blank = [FormulaNode { op: 0, num: 0 }; BOOK_NODES];
     let read = read_over(
         text,
@@ -113,6 +118,9 @@ fn watch_book(text: &[u8]) {
         &mut firsts,
         &mut counts,
         blank,
+        &mut names,
+        &mut sizes,
+        &mut widths,
     );
     let answer = read.answer;
     let table = read.table;
@@ -126,6 +134,8 @@ fn watch_book(text: &[u8]) {
             rules,
             nodes: _,
             steps_at,
+            slots: _,
+            states: _,
         } => {
             if rules == 0 {
                 put(b"no rule\n");

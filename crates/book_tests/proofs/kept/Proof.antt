@@ -7,10 +7,10 @@ use Rattle.book_tests.proofs.kept.Lts as lts
 use Rattle.book_tests.proofs.cell_at.Reads as cell-at-reads
 
 abbrev Inv-loop : tie.InvT-loop
-Inv-loop labels lens kinds firsts counts ops nums table from mark i₀ i = Unit {0}
+Inv-loop bytes sizes words sort from mark i₀ i = Unit {0}
 
 abbrev μ-loop : tie.MeasureT-loop
-μ-loop labels lens kinds firsts counts ops nums table from mark i₀ i = 2050 - i
+μ-loop bytes sizes words sort from mark i₀ i = 2050 - i
 
 loop-holds : tie.Need-loop-holds Inv-loop μ-loop
 loop-holds c = search needs

@@ -37,6 +37,15 @@ same-length-4 c = search needs
 same-length-5 : tie.Need-same-length-5
 same-length-5 c = search needs
 
+same-length-6 : tie.Need-same-length-6
+same-length-6 c = search needs
+
+same-length-7 : tie.Need-same-length-7
+same-length-7 c = search needs
+
+same-length-8 : tie.Need-same-length-8
+same-length-8 c = search needs
+
 returns-2 : tie.Need-returns-2
 returns-2 c = search (needs, fills-read)
 
@@ -54,4 +63,7 @@ read-columns-spec =
     same-length-3
     same-length-4
     same-length-5
+    same-length-6
+    same-length-7
+    same-length-8
     returns-2)

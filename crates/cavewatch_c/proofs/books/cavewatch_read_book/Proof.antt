@@ -38,6 +38,15 @@ same-length-6 c = search needs
 same-length-7 : tie.Need-same-length-7
 same-length-7 c = search needs
 
+same-length-8 : tie.Need-same-length-8
+same-length-8 c = search needs
+
+same-length-9 : tie.Need-same-length-9
+same-length-9 c = search needs
+
+same-length-10 : tie.Need-same-length-10
+same-length-10 c = search needs
+
 returns : tie.Need-returns
 returns c = search (needs, read-told)
 
@@ -55,4 +64,7 @@ cavewatch-read-book-spec =
     same-length-5
     same-length-6
     same-length-7
+    same-length-8
+    same-length-9
+    same-length-10
     returns)

@@ -1,10 +1,11 @@
-use Rattle.line.proofs.Words.{found, passed, none-left}
+use Rattle.line.proofs.Words.{found, passed}
 use borrow.Author.Needs.{needs}
 use Rattle.line.proofs.word.from_or.Statement.{statement}
 use Rattle.line.proofs.word.from_or.Tie as tie
 use Rattle.line.proofs.word.from_or.Reads as reads
 use Rattle.line.proofs.word.from_or.Lts as lts
 use Rattle.line.proofs.text.same.Reads as same-reads
+use Rattle.line.proofs.word.from_states.Reads as from-states-reads
 
 slice-aggregate-same : tie.Need-slice-aggregate-same
 slice-aggregate-same c = search needs
@@ -51,8 +52,11 @@ same-requires-5 c κs = search needs
 returns-5 : tie.Need-returns-5
 returns-5 c = search (needs, found, passed)
 
+from-states-requires : tie.Need-from-states-requires
+from-states-requires c κs = search needs
+
 returns-6 : tie.Need-returns-6
-returns-6 c = search (needs, passed, none-left) depth 7
+returns-6 c = search (needs, passed)
 
 pub from-or-spec : {M : Type 1} → statement M
 from-or-spec =
@@ -73,4 +77,5 @@ from-or-spec =
     slice-aggregate-same-5
     same-requires-5
     returns-5
+    from-states-requires
     returns-6)

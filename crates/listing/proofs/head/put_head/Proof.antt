@@ -33,7 +33,7 @@ same-length : tie.Need-same-length
 same-length c = search needs
 
 same-length-2 : tie.Need-same-length-2
-same-length-2 c = search needs
+same-length-2 c = search (needs, c .before .before .before .before .before .before .before .before .before .before .before .before .before .before .before .before .before .before .before .before .before .before .before .before .before .before .before .compile-rules .kept)
 
 same-length-3 : tie.Need-same-length-3
 same-length-3 c = search needs
@@ -45,7 +45,7 @@ same-length-5 : tie.Need-same-length-5
 same-length-5 c = search needs
 
 returns : tie.Need-returns
-returns c = head-listed _ _ _ _ _ _ _ _ _ _ _ _ _ _ _ _ (c .before .before .before .before .before .before .before .before .before .before .before .before .before .before .before .before .before .before .before .before .before .before .before .before .before .before .before .compile-rules .ensures) (c .before .before .before .before .before .before .before .before .before .before .before .before .place-rules .ensures) (c .before .before .put-rules .ensures)
+returns c = head-listed _ _ _ _ _ _ _ _ _ _ _ _ _ _ _ _ _ (c .before .before .before .before .before .before .before .before .before .before .before .before .before .before .before .before .before .before .before .before .before .before .before .before .before .before .before .compile-rules .ensures) (c .before .before .before .before .before .before .before .before .before .before .before .before .place-rules .ensures) (c .before .before .put-rules .ensures)
 
 pub put-head-spec : {M : Type 1} → statement M
 put-head-spec =

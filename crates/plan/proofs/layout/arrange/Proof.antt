@@ -6,7 +6,7 @@ use Rattle.plan.proofs.layout.arrange.Tie as tie
 use Rattle.plan.proofs.layout.arrange.Reads as reads
 use Rattle.plan.proofs.layout.arrange.Lts as lts
 use Rattle.plan.proofs.layout.chosen_bits.Reads as chosen-bits-reads
-use Rattle.plan.proofs.layout.property_bits.Reads as property-bits-reads
+use Rattle.plan.proofs.layout.kind_bits.Reads as kind-bits-reads
 use Rattle.plan.proofs.layout.store.Reads as store-reads
 
 abbrev Inv-loop : tie.InvT-loop
@@ -15,8 +15,8 @@ Inv-loop kinds refusals nodes nfirsts ncounts n base starts₀ bits₀ x₀ y₀
 abbrev μ-loop : tie.MeasureT-loop
 μ-loop kinds refusals nodes nfirsts ncounts n base starts₀ bits₀ x₀ y₀ r₀ starts bits x y r = n - r
 
-property-bits-requires : tie.Need-property-bits-requires Inv-loop μ-loop
-property-bits-requires c κs = search needs
+kind-bits-requires : tie.Need-kind-bits-requires Inv-loop μ-loop
+kind-bits-requires c κs = search needs
 
 loop-holds : tie.Need-loop-holds Inv-loop μ-loop
 loop-holds c = search (needs, arranging-none)
@@ -69,7 +69,7 @@ arrange-spec =
     (tie.spec
     Inv-loop
     μ-loop
-    property-bits-requires
+    kind-bits-requires
     loop-holds
     chosen-bits-requires
     chosen-bits-requires-2

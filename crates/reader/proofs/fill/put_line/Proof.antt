@@ -1,4 +1,4 @@
-use Rattle.reader.proofs.Fills.{line-none, rule-start, rule-len, line-rule-room, line-node-room, line-rule-put, line-node-put, line-kept}
+use Rattle.reader.proofs.Fills.{line-none, rule-start, rule-len, line-rule-room, line-node-room, line-rule-put, line-node-put, line-kept, line-states, line-slot}
 use borrow.Author.Needs.{needs}
 use Rattle.reader.proofs.fill.put_line.Statement.{statement}
 use Rattle.reader.proofs.fill.put_line.Tie as tie
@@ -40,6 +40,12 @@ put-node-requires c κs = search (needs, line-node-room)
 enum-told : tie.Need-enum-told
 enum-told c = search needs
 
+enum-told-2 : tie.Need-enum-told-2
+enum-told-2 c = search needs
+
+enum-told-3 : tie.Need-enum-told-3
+enum-told-3 c = search needs
+
 same-length : tie.Need-same-length
 same-length c = search needs
 
@@ -73,6 +79,12 @@ returns-3 c = search (needs, line-node-put)
 returns-4 : tie.Need-returns-4
 returns-4 c = search (needs, line-kept)
 
+returns-5 : tie.Need-returns-5
+returns-5 c = search (needs, line-states)
+
+returns-6 : tie.Need-returns-6
+returns-6 c = search (needs, line-slot)
+
 pub put-line-spec : {M : Type 1} → statement M
 put-line-spec =
     tie.close
@@ -87,6 +99,8 @@ put-line-spec =
     enum-known-c-2
     put-node-requires
     enum-told
+    enum-told-2
+    enum-told-3
     same-length
     same-length-2
     same-length-3
@@ -97,4 +111,6 @@ put-line-spec =
     same-length-7
     same-length-8
     returns-3
-    returns-4)
+    returns-4
+    returns-5
+    returns-6)

@@ -1,4 +1,4 @@
-use Rattle.reader.proofs.Answers.{short-labels, short-lens, short-kinds, short-firsts, short-counts, short-ops, short-nums}
+use Rattle.reader.proofs.Answers.{short-labels, short-lens, short-kinds, short-firsts, short-counts, short-ops, short-nums, short-names, short-sizes, short-widths}
 use borrow.Author.Needs.{needs}
 use Rattle.reader.proofs.read.read_tested.Statement.{statement}
 use Rattle.reader.proofs.read.read_tested.Tie as tie
@@ -27,6 +27,15 @@ returns-6 c = search (needs, short-ops)
 returns-7 : tie.Need-returns-7
 returns-7 c = search (needs, short-nums)
 
+returns-8 : tie.Need-returns-8
+returns-8 c = search (needs, short-names)
+
+returns-9 : tie.Need-returns-9
+returns-9 c = search (needs, short-sizes)
+
+returns-10 : tie.Need-returns-10
+returns-10 c = search (needs, short-widths)
+
 read-roomy-requires : tie.Need-read-roomy-requires
 read-roomy-requires c κs = search needs
 
@@ -51,8 +60,17 @@ same-length-6 c = search needs
 same-length-7 : tie.Need-same-length-7
 same-length-7 c = search needs
 
-returns-8 : tie.Need-returns-8
-returns-8 c = search needs
+same-length-8 : tie.Need-same-length-8
+same-length-8 c = search needs
+
+same-length-9 : tie.Need-same-length-9
+same-length-9 c = search needs
+
+same-length-10 : tie.Need-same-length-10
+same-length-10 c = search needs
+
+returns-11 : tie.Need-returns-11
+returns-11 c = search needs
 
 pub read-tested-spec : {M : Type 1} → statement M
 read-tested-spec =
@@ -65,6 +83,9 @@ read-tested-spec =
     returns-5
     returns-6
     returns-7
+    returns-8
+    returns-9
+    returns-10
     read-roomy-requires
     same-length
     same-length-2
@@ -73,4 +94,7 @@ read-tested-spec =
     same-length-5
     same-length-6
     same-length-7
-    returns-8)
+    same-length-8
+    same-length-9
+    same-length-10
+    returns-11)

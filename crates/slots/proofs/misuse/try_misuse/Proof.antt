@@ -5,13 +5,14 @@ use Rattle.slots.proofs.misuse.try_misuse.Tie as tie
 use Rattle.slots.proofs.misuse.try_misuse.Reads as reads
 use Rattle.slots.proofs.misuse.try_misuse.Lts as lts
 use Rattle.slots.proofs.misuse.laid_out.Reads as laid-out-reads
+use Rattle.slots.proofs.misuse.try_opening.Reads as try-opening-reads
 use Rattle.slots.proofs.misuse.try_rule.Reads as try-rule-reads
 
 abbrev Inv-loop : tie.InvT-loop
-Inv-loop ops nums kinds firsts counts nodes ncounts refusals₀ n r₀ refusals r = Unit {0}
+Inv-loop ops nums kinds firsts counts nodes ncounts refusals₀ n opening r₀ refusals r = Unit {0}
 
 abbrev μ-loop : tie.MeasureT-loop
-μ-loop ops nums kinds firsts counts nodes ncounts refusals₀ n r₀ refusals r = n - r
+μ-loop ops nums kinds firsts counts nodes ncounts refusals₀ n opening r₀ refusals r = n - r
 
 loop-holds : tie.Need-loop-holds Inv-loop μ-loop
 loop-holds c = search needs
@@ -31,6 +32,9 @@ loop-again c = search needs
 laid-out-requires : tie.Need-laid-out-requires Inv-loop μ-loop
 laid-out-requires c κs = search needs
 
+try-opening-requires : tie.Need-try-opening-requires Inv-loop μ-loop
+try-opening-requires c κs = search needs
+
 returns : tie.Need-returns Inv-loop μ-loop
 returns c = search needs
 
@@ -46,4 +50,5 @@ try-misuse-spec =
     loop-less
     loop-again
     laid-out-requires
+    try-opening-requires
     returns)
