@@ -5,6 +5,7 @@ pub mod Columns
 pub mod Runs
 pub mod Answers
 pub mod BookSteps
+pub mod Reaching
 pub mod Loops
 pub mod OpeningPass
 pub mod StepsOfBook

@@ -8,20 +8,20 @@ use Prim.Native.Nat.{ℕ, _+_, _-_, _≤_, _<_}
 use native.Mathlib.Omega.{arith}
 use mir.Syntax.{w64}
 use mir.Val.{Fits}
-use lib.ListN.{length, take, drop, length-drop, drop-of-length-le}
+use lib.ListN.{length, take, drop}
 use Rattle.terms.specs.Choice.{pick}
 use Rattle.number.proofs.Numbers.{below-or}
-use Rattle.line.specs.Text.{lines, parts, Found}
+use Rattle.line.specs.Text.{lines, Found}
 use Rattle.line.specs.Line.{Content, rule, node, step, states, slot, Line, bad, wrong, right, parse}
 use Rattle.book.specs.Book.{Book, empty, isNil, lastOf, stands, Fault, fault, add, addLine, accepted, unless, readOn, read}
-use Rattle.book.proofs.Checks.{read-line}
 use Rattle.reader.specs.BookTables.{BookTables, over, cells, written}
 use Rattle.reader.specs.Answer.{Roomy}
 use Rattle.reader.specs.FillingPass.{LineRoom, LinePut, RoomFor, LeftBy, Fillable, FilledTables}
 use Rattle.reader.specs.declared.fill.Tally.{Tally}
-use Rattle.reader.proofs.Sounds.{Passed, PassedLine, passed, sane, Sound, sound-empty, sound-add}
-use Rattle.reader.proofs.Runs.{roomy-is, Tallied, tables-eq, Long, written-long, room-by, line-after, accepted-lines, accepted-ended, accepted-inj, accepted-short, unless-none}
+use Rattle.reader.proofs.Sounds.{Passed, PassedLine, passed, sane}
+use Rattle.reader.proofs.Runs.{roomy-is, Tallied, tables-eq, Long, written-long, room-by, line-after, accepted-inj, unless-none}
 use Rattle.reader.proofs.BookSteps.{Stepping, begun, later, ends}
+use Rattle.reader.proofs.Reaching.{Reach, reach-first, reach-on, reach-end, next-fits, line-passed, passed-as, next-lines, next-on, next-reach}
 
 -- ---- the bytes before the step lines
 head-grows : (n : ℕ) (b : Book) (l : Line) → b .head ≤ addLine n b l .head
@@ -96,107 +96,77 @@ head-on n b c k ls (step x y) p a h = absurd (omega (arith, later (add n b (step
 
 -- ---- the loop
 pub record FillRun (text : List ℕ) (head : ℕ) (t₀ t : BookTables) (f : Tally) (at : ℕ) : Type 0 where
-  pub book : Book
-  pub line : ℕ
-  pub sound : Sound book
-  pub laid : t ≡ written book t₀
-  pub long : Long t₀ t
-  pub tallied : Tallied book f
   pub ready : Fillable text head t₀
-  pub here : book .head ≡ at
-  pub same : readOn empty 0 (lines text) ≡ readOn book line (lines (drop at text))
+  pub reach : Reach text (ready .book) at
+  pub laid : t ≡ written (reach .book) t₀
+  pub long : Long t₀ t
+  pub tallied : Tallied (reach .book) f
+  pub here : reach .book .head ≡ at
 
 pub fill-first : (text : List ℕ) (head : ℕ) (t : BookTables) → Fillable text head t → FillRun text head t t (record { rules = 0; nodes = 0; own = 0 }) 0
 unfolding written over cells lastOf
 fill-first text head t h = record {
-  book = empty;
-  line = 0;
-  sound = sound-empty;
+  ready = h;
+  reach = reach-first text (h .book) (h .is);
   laid = refl;
   long = record { labels = refl; lens = refl; kinds = refl; firsts = refl; counts = refl; ops = refl; nums = refl };
   tallied = record { rules = refl; nodes = refl; own = refl };
-  ready = h;
   here = refl;
-  same = refl;
 }
 
 module _ (text : List ℕ) (head : ℕ) (t₀ t : BookTables) (f : Tally) (at : ℕ) (v : FillRun text head t₀ t f at) where
-  accepted-on : readOn (v .book) (v .line) (lines (drop at text)) ≡ accepted (v .ready .book)
-  accepted-on = sym (v .same) ∙ accepted-lines text (v .ready .book) (v .ready .is)
+  abbrev final : Book
+  final = v .ready .book
+
+  abbrev b : Book
+  b = v .reach .book
 
   pub fill-end : head ≤ at → FilledTables text t₀ t
   fill-end h =
-      let same : Same (v .book) (v .ready .book) = rest-same (v .book) (v .ready .book) (v .line) (lines (drop at text)) accepted-on (omega (arith, v .ready .begin, v .here)) in
-      record {
-        is = λ b x. v .laid ∙ same-written (v .book) (v .ready .book) t₀ same ∙ ap (λ (y : Book). written y t₀) (accepted-inj (sym (v .ready .is) ∙ x));
-      }
+      let same : Same b final = rest-same b final (v .reach .line) (lines (drop at text)) (reach-on text final at (v .reach)) (omega (arith, v .ready .begin, v .here)) in
+      record { is = λ c x. v .laid ∙ same-written b final t₀ same ∙ ap (λ (y : Book). written y t₀) (accepted-inj (sym (v .ready .is) ∙ x)) }
 
   pub fill-inside : at < head → at < length text
-  unfolding parts
   fill-inside h = go (below-or at (length text))
     where
       go : _⊎_ (at < length text) (length text ≤ at) → at < length text
       go (inl k) = k
-      go (inr k) =
-          let none-left : readOn (v .book) (v .line) [] ≡ accepted (v .ready .book) =
-          subst (λ (x : List ℕ). readOn (v .book) (v .line) (lines x) ≡ accepted (v .ready .book)) (drop-of-length-le text k) accepted-on in
-          absurd (omega (arith, ap (λ (x : Book). x .head) (ends (v .book) (v .ready .book) (v .line) none-left), v .ready .begin, v .here))
+      go (inr k) = absurd (omega (arith, ap (λ (x : Book). x .head) (reach-end text final at (v .reach) k), v .ready .begin, v .here))
 
   pub fill-past : at < head → at ≤ length text
   fill-past h = omega (arith, fill-inside h)
 
   module _ (rest : List ℕ) (n : ℕ) (h : at < head) (e : rest ≡ drop at text) (g : Found 10 rest n) where
-    short : n ≤ length text - at
-    short = subst (λ (i : ℕ). n ≤ i) (ap length e ∙ length-drop at text) (g .inside)
-
     pub fill-at : Fits w64 (at + (n + 1))
-    fill-at = record { fits = omega (arith, short, fill-inside h, accepted-short text (v .ready .book) (v .ready .is)) }
+    fill-at = next-fits text final at (v .reach) rest n (fill-inside h) e g
 
     module _ (first : List ℕ) (e′ : first ≡ take n rest) where
-      abbrev next-lines : List (List ℕ)
-      next-lines = lines (drop (at + (n + 1)) text)
-
-      line-read : readOn (v .book) (v .line) (lines (drop at text)) ≡ unless (fault (v .book) (parse first)) (v .line) (readOn (addLine (n + 1) (v .book) (parse first)) (v .line + 1) next-lines)
-      line-read = read-line (v .book) (v .line) text rest first at n (accepted-ended text (v .ready .book) (v .ready .is)) (fill-inside h) e g e′
-
-      none-and-on : (fault (v .book) (parse first) ≡ none) × (readOn (addLine (n + 1) (v .book) (parse first)) (v .line + 1) next-lines ≡ accepted (v .ready .book))
-      none-and-on = unless-none _ _ _ _ (sym line-read ∙ accepted-on)
-
-      line-passed : PassedLine (v .book) (parse first)
-      line-passed = passed (v .book) (parse first) (none-and-on .0)
+      abbrev passed-line : PassedLine b (parse first)
+      passed-line = line-passed text final at (v .reach) rest n (fill-inside h) e g first e′
 
       pub fill-room : LineRoom first t f
       fill-room = record {
         room = λ c q.
             subst (λ (x : BookTables). RoomFor c x f) (sym (v .laid))
-            (room-by (v .book) t₀ (v .sound) (roomy-is t₀ (v .ready .room)) f c (v .tallied) (sane first c q) (passed-as c q));
+            (room-by b t₀ (v .reach .sound) (roomy-is t₀ (v .ready .room)) f c (v .tallied) (sane first c q) (passed-as text final at (v .reach) rest n (fill-inside h) e g first e′ c q));
       }
-        where
-          right-is : {c d : Content} → right c ≡ right d → c ≡ d
-          right-is z = cc
-
-          passed-as : (c : Content) → parse first ≡ right c → Passed (v .book) c
-          passed-as c q = subst (Passed (v .book)) (right-is (sym (line-passed .is) ∙ q)) (line-passed .passed)
 
       pub fill-next : (t′ : BookTables) (f′ : Tally) → LinePut first t f t′ f′ → FillRun text head t₀ t′ f′ (at + (n + 1))
       fill-next t′ f′ p =
-          let c : Content = line-passed .content in
-          let q : parse first ≡ right c = line-passed .is in
-          let b′ : Book = add (n + 1) (v .book) c in
+          let c : Content = passed-line .content in
+          let q : parse first ≡ right c = passed-line .is in
+          let r : Reach text final (at + (n + 1)) = next-reach text final at (v .reach) rest n (fill-inside h) e g first e′ in
           let roomy : Roomy t₀ = roomy-is t₀ (v .ready .room) in
-          let left : LeftBy c (written (v .book) t₀) f t′ f′ = subst (λ (z : BookTables). LeftBy c z f t′ f′) (v .laid) (p .left c q) in
-          let (x, y) = line-after (v .book) t₀ (v .sound) roomy (n + 1) f f′ t′ (v .tallied) c (sane first c q) (line-passed .passed) left in
-          let on : readOn b′ (v .line + 1) next-lines ≡ accepted (v .ready .book) =
-          subst (λ (z : Line). readOn (addLine (n + 1) (v .book) z) (v .line + 1) next-lines ≡ accepted (v .ready .book)) q (none-and-on .1) in
-          let s : Sound b′ = subst (λ (z : Line). Sound (addLine (n + 1) (v .book) z)) q (sound-add (n + 1) (v .book) first (v .sound) (none-and-on .0)) in
+          let left : LeftBy c (written b t₀) f t′ f′ = subst (λ (z : BookTables). LeftBy c z f t′ f′) (v .laid) (p .left c q) in
+          let (x, y) = line-after b t₀ (v .reach .sound) roomy (n + 1) f f′ t′ (v .tallied) c (sane first c q) (passed-line .passed) left in
           record {
-            book = b′;
-            line = v .line + 1;
-            sound = s;
-            laid = x;
-            long = subst (Long t₀) (sym x) (written-long b′ t₀ s roomy);
-            tallied = y;
             ready = v .ready;
-            here = head-on (n + 1) (v .book) (v .ready .book) (v .line + 1) next-lines c (line-passed .passed) on (omega (arith, v .ready .begin, v .here)) ∙ ap (λ (i : ℕ). i + (n + 1)) (v .here);
-            same = v .same ∙ accepted-on ∙ sym on;
+            reach = r;
+            laid = x;
+            long = subst (Long t₀) (sym x) (written-long (r .book) t₀ (r .sound) roomy);
+            tallied = y;
+            here =
+                head-on (n + 1) b final (v .reach .line + 1) (next-lines text final at (v .reach) rest n (fill-inside h) e g first e′) c (passed-line .passed)
+                (next-on text final at (v .reach) rest n (fill-inside h) e g first e′) (omega (arith, v .ready .begin, v .here))
+                ∙ ap (λ (i : ℕ). i + (n + 1)) (v .here);
           }

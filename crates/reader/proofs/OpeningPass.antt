@@ -10,9 +10,9 @@ use mir.Syntax.{w64}
 use mir.Val.{Fits}
 use types.Run.{OneOf, miss}
 use denote.Enum.Declared.{tagOf}
-use lib.ListN.{length, take, drop, set, length-append, length-drop, drop-of-length-le}
+use lib.ListN.{length, take, drop, set, length-append, length-drop}
 use Rattle.number.proofs.Numbers.{below-or}
-use Rattle.line.specs.Text.{lines, parts, Found}
+use Rattle.line.specs.Text.{lines, Found}
 use Rattle.line.specs.Line.{Content, rule, node, step, states, slot, Line, bad, wrong, right, parse}
 use Rattle.line.specs.Means.{held, means, labelIn, inLine, LineIs}
 use Rattle.line.specs.declared.line.Content as held-type
@@ -23,18 +23,15 @@ use Rattle.line.proofs.line.Content as content-type
 use Rattle.line.proofs.line.Line as line-type
 use Rattle.line.proofs.Sane.{Sane}
 use Rattle.book.specs.Book.{Book, empty, Fault, fault, add, addLine, accepted, unless, readOn, read}
-use Rattle.book.proofs.Checks.{read-line}
 use Rattle.reader.specs.BookTables.{SlotTables, slotColumns, over, cells, slotsWritten, roomySlots}
 use Rattle.reader.specs.Answer.{RoomySlots}
 use Rattle.reader.specs.FillingPass.{SlotRoom, SlotPut, SlotRoomFor, SlotsKept, SlotDone, SlotLeftBy, SlotLineRoom, SlotLinePut, SlotsFillable, FilledSlots}
-use Rattle.reader.proofs.Sounds.{Passed, PassedLine, passed, sane, label-short, slots-left, Sound, sound-empty, sound-add}
-use Rattle.reader.proofs.Runs.{roomy-slots-is, map-long, accepted-lines, accepted-ended, accepted-inj, accepted-short, unless-none}
+use Rattle.reader.proofs.Sounds.{Passed, PassedLine, passed, sane, label-short, slots-left, Sound}
+use Rattle.reader.proofs.Runs.{roomy-slots-is, map-long, accepted-inj, unless-none}
 use Rattle.reader.proofs.Fills.{line-right}
 use Rattle.reader.proofs.BookSteps.{ends}
+use Rattle.reader.proofs.Reaching.{Reach, right-is, reach-first, reach-on, reach-end, next-fits, next-falls, line-passed, passed-as, next-reach}
 use Rattle.reader.proofs.Columns.{over-long, over-snoc, cells-snoc, cells-long, map-snoc}
-
-right-is : {c d : Content} → right c ≡ right d → c ≡ d
-right-is z = cc
 
 -- ---- a line
 module _ (line : List ℕ) (l : code.Line) (is : LineIs line l) where
@@ -199,26 +196,20 @@ module _ (b : Book) (u : SlotTables) (s : Sound b) (r : RoomySlots u) (n k : ℕ
 
 -- ---- the loop
 pub record SlotRun (text : List ℕ) (slots : ℕ) (u₀ u : SlotTables) (k at : ℕ) : Type 0 where
-  pub book : Book
-  pub line : ℕ
-  pub sound : Sound book
-  pub laid : u ≡ slotsWritten book u₀
-  pub long : SlotsLong u₀ u
-  pub counted : k ≡ length (book .names)
   pub ready : SlotsFillable text slots u₀
-  pub same : readOn empty 0 (lines text) ≡ readOn book line (lines (drop at text))
+  pub reach : Reach text (ready .book) at
+  pub laid : u ≡ slotsWritten (reach .book) u₀
+  pub long : SlotsLong u₀ u
+  pub counted : k ≡ length (reach .book .names)
 
 pub slots-first : (text : List ℕ) (slots : ℕ) (u : SlotTables) → SlotsFillable text slots u → SlotRun text slots u u 0 0
 unfolding slotsWritten over cells
 slots-first text slots u h = record {
-  book = empty;
-  line = 0;
-  sound = sound-empty;
+  ready = h;
+  reach = reach-first text (h .book) (h .is);
   laid = refl;
   long = record { names = refl; lens = refl; widths = refl };
   counted = refl;
-  ready = h;
-  same = refl;
 }
 
 nil-of : {A : Type 0} (l : List A) → length l ≤ 0 → l ≡ []
@@ -226,83 +217,56 @@ nil-of [] h = refl
 nil-of (a ∷ r) h = absurd (omega arith)
 
 module _ (text : List ℕ) (slots : ℕ) (u₀ u : SlotTables) (k at : ℕ) (v : SlotRun text slots u₀ u k at) where
-  accepted-on : readOn (v .book) (v .line) (lines (drop at text)) ≡ accepted (v .ready .book)
-  accepted-on = sym (v .same) ∙ accepted-lines text (v .ready .book) (v .ready .is)
+  abbrev final : Book
+  final = v .ready .book
+
+  abbrev b : Book
+  b = v .reach .book
 
   pub slots-end : slots ≤ k → FilledSlots text u₀ u
   slots-end h =
-      let g : Grown (v .book) (v .ready .book) = grown (v .book) (v .ready .book) (v .line) (lines (drop at text)) accepted-on in
-      let none-more : g .names-more ≡ [] = nil-of (g .names-more) (omega (arith, v .ready .many, v .counted, ap length (g .names), length-append (v .book .names) (g .names-more))) in
+      let g : Grown b final = grown b final (v .reach .line) (lines (drop at text)) (reach-on text final at (v .reach)) in
+      let none-more : g .names-more ≡ [] = nil-of (g .names-more) (omega (arith, v .ready .many, v .counted, ap length (g .names), length-append (b .names) (g .names-more))) in
       let no-widths : g .widths-more ≡ [] = nil-of (g .widths-more) (omega (arith, ap length none-more, g .alike)) in
-      let p : v .book .names ≡ v .ready .book .names = sym (g .names ∙ ap (λ (x : List (List ℕ)). v .book .names ++ x) none-more ∙ append-nil (v .book .names)) in
-      let q : v .book .widths ≡ v .ready .book .widths = sym (g .widths ∙ ap (λ (x : List ℕ). v .book .widths ++ x) no-widths ∙ append-nil (v .book .widths)) in
-      record {
-        is = λ b x. v .laid ∙ same-slots (v .book) (v .ready .book) u₀ p q ∙ ap (λ (y : Book). slotsWritten y u₀) (accepted-inj (sym (v .ready .is) ∙ x));
-      }
+      let p : b .names ≡ final .names = sym (g .names ∙ ap (λ (x : List (List ℕ)). b .names ++ x) none-more ∙ append-nil (b .names)) in
+      let q : b .widths ≡ final .widths = sym (g .widths ∙ ap (λ (x : List ℕ). b .widths ++ x) no-widths ∙ append-nil (b .widths)) in
+      record { is = λ c x. v .laid ∙ same-slots b final u₀ p q ∙ ap (λ (y : Book). slotsWritten y u₀) (accepted-inj (sym (v .ready .is) ∙ x)) }
 
   pub slots-inside : k < slots → at < length text
-  unfolding parts
   slots-inside h = go (below-or at (length text))
     where
       go : _⊎_ (at < length text) (length text ≤ at) → at < length text
       go (inl j) = j
-      go (inr j) =
-          let none-left : readOn (v .book) (v .line) [] ≡ accepted (v .ready .book) =
-          subst (λ (x : List ℕ). readOn (v .book) (v .line) (lines x) ≡ accepted (v .ready .book)) (drop-of-length-le text j) accepted-on in
-          absurd (omega (arith, ap (λ (x : Book). length (x .names)) (ends (v .book) (v .ready .book) (v .line) none-left), v .ready .many, v .counted))
+      go (inr j) = absurd (omega (arith, ap (λ (x : Book). length (x .names)) (reach-end text final at (v .reach) j), v .ready .many, v .counted))
 
   pub slots-past : k < slots → at ≤ length text
   slots-past h = omega (arith, slots-inside h)
 
   module _ (rest : List ℕ) (n : ℕ) (h : k < slots) (e : rest ≡ drop at text) (g : Found 10 rest n) where
-    short : n ≤ length text - at
-    short = subst (λ (i : ℕ). n ≤ i) (ap length e ∙ length-drop at text) (g .inside)
-
     pub slots-at : Fits w64 (at + (n + 1))
-    slots-at = record { fits = omega (arith, short, slots-inside h, accepted-short text (v .ready .book) (v .ready .is)) }
+    slots-at = next-fits text final at (v .reach) rest n (slots-inside h) e g
 
     pub slots-falls : length text - (at + (n + 1)) < length text - at
-    slots-falls = omega (arith, short, slots-inside h)
+    slots-falls = next-falls text final at (v .reach) rest n (slots-inside h) e g
 
     module _ (first : List ℕ) (e′ : first ≡ take n rest) where
-      abbrev next-lines : List (List ℕ)
-      next-lines = lines (drop (at + (n + 1)) text)
-
-      line-read : readOn (v .book) (v .line) (lines (drop at text)) ≡ unless (fault (v .book) (parse first)) (v .line) (readOn (addLine (n + 1) (v .book) (parse first)) (v .line + 1) next-lines)
-      line-read = read-line (v .book) (v .line) text rest first at n (accepted-ended text (v .ready .book) (v .ready .is)) (slots-inside h) e g e′
-
-      none-and-on : (fault (v .book) (parse first) ≡ none) × (readOn (addLine (n + 1) (v .book) (parse first)) (v .line + 1) next-lines ≡ accepted (v .ready .book))
-      none-and-on = unless-none _ _ _ _ (sym line-read ∙ accepted-on)
-
-      line-passed : PassedLine (v .book) (parse first)
-      line-passed = passed (v .book) (parse first) (none-and-on .0)
+      abbrev passed-line : PassedLine b (parse first)
+      passed-line = line-passed text final at (v .reach) rest n (slots-inside h) e g first e′
 
       pub slots-room : SlotLineRoom first u k
       slots-room = record {
         room = λ c q.
             subst (λ (x : SlotTables). SlotRoomFor c x k) (sym (v .laid))
-            (slot-room-by (v .book) u₀ (v .sound) (roomy-slots-is u₀ (v .ready .room)) 0 k (v .counted) c (sane first c q)
-            (subst (Passed (v .book)) (right-is (sym (line-passed .is) ∙ q)) (line-passed .passed)));
+            (slot-room-by b u₀ (v .reach .sound) (roomy-slots-is u₀ (v .ready .room)) 0 k (v .counted) c (sane first c q)
+            (passed-as text final at (v .reach) rest n (slots-inside h) e g first e′ c q));
       }
 
       pub slots-next : (u′ : SlotTables) (k′ : ℕ) → SlotLinePut first u k u′ k′ → SlotRun text slots u₀ u′ k′ (at + (n + 1))
       slots-next u′ k′ p =
-          let c : Content = line-passed .content in
-          let q : parse first ≡ right c = line-passed .is in
-          let b′ : Book = add (n + 1) (v .book) c in
+          let c : Content = passed-line .content in
+          let q : parse first ≡ right c = passed-line .is in
+          let r : Reach text final (at + (n + 1)) = next-reach text final at (v .reach) rest n (slots-inside h) e g first e′ in
           let roomy : RoomySlots u₀ = roomy-slots-is u₀ (v .ready .room) in
-          let left : SlotLeftBy c (slotsWritten (v .book) u₀) k u′ k′ = subst (λ (z : SlotTables). SlotLeftBy c z k u′ k′) (v .laid) (p .left c q) in
-          let (x, y) = slot-after (v .book) u₀ (v .sound) roomy (n + 1) k (v .counted) u′ k′ c (sane first c q) (line-passed .passed) left in
-          let on : readOn b′ (v .line + 1) next-lines ≡ accepted (v .ready .book) =
-          subst (λ (z : Line). readOn (addLine (n + 1) (v .book) z) (v .line + 1) next-lines ≡ accepted (v .ready .book)) q (none-and-on .1) in
-          let s : Sound b′ = subst (λ (z : Line). Sound (addLine (n + 1) (v .book) z)) q (sound-add (n + 1) (v .book) first (v .sound) (none-and-on .0)) in
-          record {
-            book = b′;
-            line = v .line + 1;
-            sound = s;
-            laid = x;
-            long = subst (SlotsLong u₀) (sym x) (slots-long b′ u₀ s roomy);
-            counted = y;
-            ready = v .ready;
-            same = v .same ∙ accepted-on ∙ sym on;
-          }
+          let left : SlotLeftBy c (slotsWritten b u₀) k u′ k′ = subst (λ (z : SlotTables). SlotLeftBy c z k u′ k′) (v .laid) (p .left c q) in
+          let (x, y) = slot-after b u₀ (v .reach .sound) roomy (n + 1) k (v .counted) u′ k′ c (sane first c q) (passed-line .passed) left in
+          record { ready = v .ready; reach = r; laid = x; long = subst (SlotsLong u₀) (sym x) (slots-long (r .book) u₀ (r .sound) roomy); counted = y }
