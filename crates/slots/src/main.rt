@@ -1,7 +1,7 @@
 // slots: reads a book on standard input, compiles each rule and prints what the calls on compiled rules answer, by tabs:
-// `plan` and its five numbers, `var`, a slot's number, first bit and width, by `layout`; `rule`, number, first bit and bits by `layout`, bits by `layout_for`; `slot`, rule, node, offset, bits of the pending flag, of the remaining
-// count, of the remembered antecedent, by `node_slot`; `alike`, two rules, by `alike`; or `refused`, number and line of a refused book. Calls that
-// are to be refused are made too, and write nothing.
+// `plan` and its five numbers, and `var`, a slot's number, first bit and width, by `layout`; `rule`, number, first bit and bits by `layout`, bits by
+// `layout_for`; `slot`, rule, node, offset, bits of the pending flag, of the remaining count, of the remembered antecedent, by `node_slot`; `alike`,
+// two rules, by `alike`; or `refused`, number and line of a refused book. Calls that are to be refused are made too, and write nothing.
 mod compile;
 mod misuse;
 mod show;
