@@ -34,6 +34,13 @@ struct monitor {
 
 static uint8_t out[CAVEWATCH_LISTING];
 
+static uint64_t read_book(const char *book, size_t count, size_t names_count, uint64_t *found)
+{
+    return cavewatch_read_book((const uint8_t *)book, count, labels, CAVEWATCH_LABELS, lens, CAVEWATCH_RULES, kinds, CAVEWATCH_RULES,
+        firsts, CAVEWATCH_RULES, counts, CAVEWATCH_RULES, ops, CAVEWATCH_FORMULA_NODES, nums, CAVEWATCH_FORMULA_NODES,
+        names, names_count, sizes, CAVEWATCH_SLOTS, widths, CAVEWATCH_SLOTS, found);
+}
+
 static uint64_t fresh(struct monitor *m, size_t ncount)
 {
     return cavewatch_fresh(ops, CAVEWATCH_FORMULA_NODES, nums, CAVEWATCH_FORMULA_NODES, firsts[0], counts[0],
@@ -111,9 +118,7 @@ static int watch_book(void)
     uint64_t found[CAVEWATCH_FOUND] = {0}, answer;
     size_t begin;
 
-    answer = cavewatch_read_book(text, text_count, labels, CAVEWATCH_LABELS, lens, CAVEWATCH_RULES, kinds, CAVEWATCH_RULES,
-        firsts, CAVEWATCH_RULES, counts, CAVEWATCH_RULES, ops, CAVEWATCH_FORMULA_NODES, nums, CAVEWATCH_FORMULA_NODES,
-        names, CAVEWATCH_NAMES, sizes, CAVEWATCH_SLOTS, widths, CAVEWATCH_SLOTS, found);
+    answer = read_book((const char *)text, text_count, CAVEWATCH_NAMES, found);
     if (answer != CAVEWATCH_ACCEPTED) {
         printf("book refused %" PRIu64 " at line %" PRIu64 "\n", CAVEWATCH_NUMBER(answer), CAVEWATCH_LINE(answer));
         return 0;
@@ -136,18 +141,34 @@ static int watch_book(void)
 /* what a caller gets who lends too little, or a text that is no book: the number, for a book with its line, and nothing is written */
 static int watch_refused(void)
 {
-    uint64_t found[CAVEWATCH_FOUND] = {7, 7, 7}, answer;
+    uint64_t found[CAVEWATCH_FOUND] = {7, 7, 7, 7, 7, 7}, answer;
     uint8_t few[1] = {9};
 
     answer = cavewatch_list_book(text, text_count, few, 1, found);
     if (answer != 1 || few[0] != 9 || found[0] != 7)
         return 1;
-    answer = cavewatch_read_book((const uint8_t *)"rule\ta\tP\nvar\t64\n", 16, labels, CAVEWATCH_LABELS, lens, CAVEWATCH_RULES,
-        kinds, CAVEWATCH_RULES, firsts, CAVEWATCH_RULES, counts, CAVEWATCH_RULES, ops, CAVEWATCH_FORMULA_NODES, nums, CAVEWATCH_FORMULA_NODES, found);
-    if (CAVEWATCH_NUMBER(answer) != 8 || CAVEWATCH_LINE(answer) != 2 || found[0] != 7 || found[1] != 7 || found[2] != 7)
+    answer = read_book("rule\ta\tP\nvar\t64\n", 16, CAVEWATCH_NAMES, found);
+    if (CAVEWATCH_NUMBER(answer) != CAVEWATCH_NUMBER_WRONG || CAVEWATCH_LINE(answer) != 2 || found[0] != 7 || found[1] != 7 || found[5] != 7)
+        return 1;
+    widths[0] = 7;
+    answer = read_book("slot\ta\t1\nstates\t2\n", 18, CAVEWATCH_NAMES, found);
+    if (CAVEWATCH_NUMBER(answer) != CAVEWATCH_OPENING || CAVEWATCH_LINE(answer) != 2 || widths[0] != 7)
+        return 1;
+    if (read_book("slot\ta\t1\n", 9, CAVEWATCH_NAMES - 1, found) != CAVEWATCH_TOO_SHORT || widths[0] != 7)
         return 1;
     answer = cavewatch_next_step((const uint8_t *)"step\t0\t0000000000000000", 23, 0, found);
     return answer != CAVEWATCH_END || found[0] != 7;
+}
+
+/* what a book opens with */
+static int watch_opening(void)
+{
+    uint64_t found[CAVEWATCH_FOUND];
+
+    if (read_book("states\t5\nslot\tab\t10\n", 20, CAVEWATCH_NAMES, found) != CAVEWATCH_ACCEPTED)
+        return 1;
+    return found[0] != 0 || found[2] != 20 || found[3] != 1 || found[4] != 1 || found[5] != 5 || sizes[0] != 2 || widths[0] != 10
+        || memcmp(names, "ab", 2) != 0;
 }
 
 int main(int argc, char **argv)
@@ -166,7 +187,7 @@ int main(int argc, char **argv)
     }
     text_count = fread(text, 1, TEXT, book);
     fclose(book);
-    if (watch_book() != 0 || watch_refused() != 0) {
+    if (watch_book() != 0 || watch_refused() != 0 || watch_opening() != 0) {
         printf("not as cavewatch.h says\n");
         return 1;
     }
