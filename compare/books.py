@@ -425,6 +425,7 @@ def joined_book(rng):
 
 
 WORDS = ATOMS + ONE + BOUNDED + TWO + ["rule", "step", "states", "slot"]
+OPERANDS = {w: 1 for w in ONE + BOUNDED} | {w: 2 for w in TWO} | {w: 0 for w in ATOMS}
 OPENING = (b"states\t", b"slot\t")
 
 
@@ -609,6 +610,59 @@ def fault_books():
                 continue
             start = b"rule\tz\tA\nalways\nwithin\t1\n" if line.startswith(OPENING) else b""
             yield head + line + b"\n" + start + b"var\t3\nstep\t0\t0000000000000009\n"
+
+
+# ---- words spelled right and misspelt, where the word is accepted
+
+
+# Of each word: the lines before it, its fields, the lines after it.
+FRAMES = {
+    "states": ([], "\t3", []),
+    "slot": ([], "\ta\t8", []),
+    "rule": ([], "\tx\tP", ["var\t0"]),
+    "step": (rule("x", "P", ("var", 0)), "\t0\t0000000000000001", []),
+} | {w: (["rule\tx\tP"], "\t1" if w in ATOMS + BOUNDED else "", ["var\t0"] * n) for w, n in OPERANDS.items()}
+
+
+def framed(word, spelling):
+    """A book that is accepted if the spelling is taken for the word."""
+    before, fields, after = FRAMES[word]
+    return text(before + [spelling + fields] + after)
+
+
+def spellings(word):
+    """Each spelling and what it is. A letter is changed to its neighbours in the alphabet, to its capital, in its highest bit, and to those that words of
+    the same length have at its place."""
+    out = {word: "spelled right"}
+
+    def add(what, cases):
+        for spelling in cases:
+            out.setdefault(spelling, what)
+
+    for i, c in enumerate(word):
+        near = [chr(ord(c) + d) for d in [-1, 1, -32, 128]]
+        add("one letter changed", [word[:i] + x + word[i + 1 :] for x in near + [w[i] for w in WORDS if len(w) == len(word)]])
+    inside = range(1, len(word))
+    add("two letters swapped", [word[: i - 1] + word[i] + word[i - 1] + word[i + 1 :] for i in inside])
+    add("one letter short", [word[:i] + word[i + 1 :] for i in range(len(word))])
+    add("one letter long", [word[: i + 1] + word[i:] for i in range(len(word))])
+    add("one letter long", [x for c in "s- \0\r" for x in [word + c, c + word]])
+    if word.startswith("always"):
+        add("another tail", ["always-", "always-f", "always-fo", "always-for-", "alwaysfor", "always-FOR"])
+    add("a tab inside", [word[:i] + "\t" + word[i:] for i in inside])
+    return out
+
+
+# What a book with a word in its own frame shows.
+SPELLED = {framed(word, spelling): f"{word}, {what}" for word in WORDS for spelling, what in spellings(word).items()}
+
+
+def spelling_books():
+    """Each spelling in its word's frame, and in those of the words of the spelling's own length."""
+    out = dict.fromkeys(SPELLED)
+    for spelling in [x for word in WORDS for x in spellings(word)]:
+        out |= dict.fromkeys(framed(w, spelling) for w in WORDS if len(w) == len(spelling))
+    yield from out
 
 
 # ---- limits, met and passed
@@ -890,6 +944,7 @@ def all_books(seed, count, records, oracle):
     yield from opening_books()
     yield from limit_books()
     yield from fault_books()
+    yield from spelling_books()
     rng = random.Random(f"{seed} small")
     yield from small_books(rng, oracle, records)
     rng = random.Random(f"{seed} joined")
@@ -933,7 +988,6 @@ def ask(oracle, books, mode="batch"):
 SOURCE = "d1c1b31563"  # the source's commit, as in NOTICE
 MADE = """{count} books and the Rust's answers: compare/run --seed {seed} vectors crates/replay/data, the source at commit {commit}.
 """
-OPERANDS = {w: 1 for w in ONE + BOUNDED} | {w: 2 for w in TWO} | {w: 0 for w in ATOMS}
 
 
 def reached(lines):
@@ -984,6 +1038,8 @@ def shown_refused(data, number, line):
     fields = lines[-1].split(b"\t") if lines else [b""]
     if fields[0] in [b"states", b"slot"] and number != "10":
         out |= shown_opening_line(number, fields)
+    if data in SPELLED:
+        out.add(f"refused {number} for {SPELLED[data]}")
     if number == "3" and len(data) == 65536:
         out.add("refused for 65536 bytes")
     if number == "4" and len(data) == 65535:
@@ -1031,6 +1087,8 @@ def shown(data, answer):
     out |= {f"{limit} {name}" for name, limit in LIMITS.items() if at[name] == limit}
     if len(data) == 65535:
         out |= {"65535 bytes"} | ({"65535 bytes with 64 rules"} if at["rules"] == 64 else set())
+    if data in SPELLED:
+        out.add(SPELLED[data])
     if not data:
         out.add("the empty book")
     if data.startswith(b"step\t"):
@@ -1063,6 +1121,10 @@ def shown(data, answer):
     return out
 
 
+# Shown by one vector each.
+WANTED_SPELLED = {f"{word}, spelled right" for word in WORDS} | {
+    f"refused 5 for {word}, {what}" for word in WORDS for what in ["one letter changed", "two letters swapped", "one letter short", "one letter long"]
+}
 WANTED = (
     {f"refused {n}" for n in [*range(3, 11), 25]}
     | {f"rule {n}{kind}" for n in [0] + list(range(11, 20)) for kind in [" P", " A"]}
@@ -1109,7 +1171,7 @@ def vector_groups(rng, oracle):
 
 
 def vectors(folder, oracle, seed):
-    """Document 01's trips; for each thing wanted the two shortest books and one more, as long as fewer than three show it; a spread of each group."""
+    """Document 01's trips; for each thing wanted the two shortest books and one more, as long as fewer than three show it; a spread of each group; spellings."""
     rng = random.Random(f"{seed} vectors")
     traits, spread, chosen, counts = {}, [], [], {}
     for many, group in vector_groups(rng, oracle):
@@ -1131,13 +1193,19 @@ def vectors(folder, oracle, seed):
         for b in having[:2] + rng.sample(more, min(1, len(more))):
             if counts.get(x, 0) < 3:
                 take(b)
-    missing = sorted(x for x in WANTED if x not in counts)
-    if missing:
-        sys.exit(f"no vector shows: {missing}")
     for many, group in spread:
         left = [b for b in group if b not in chosen]
         for b in rng.sample(left, max(0, many - len(group) + len(left))):
             take(b)
+    traits.update((b, shown(b, a)) for b, a in zip(SPELLED, ask(oracle, SPELLED)))
+    for x in sorted(WANTED_SPELLED - counts.keys()):
+        having = [b for b in SPELLED if x in traits[b]]
+        for b in rng.sample(having, min(1, len(having))):
+            take(b)
+    wanted = WANTED | WANTED_SPELLED
+    missing = sorted(wanted - counts.keys())
+    if missing:
+        sys.exit(f"no vector shows: {missing}")
     answers = ask(oracle, chosen)
     os.makedirs(folder, exist_ok=True)
     with open(os.path.join(folder, "books"), "wb") as f:
@@ -1147,7 +1215,7 @@ def vectors(folder, oracle, seed):
     with open(os.path.join(folder, "made"), "w") as f:
         f.write(MADE.format(count=len(chosen), seed=seed, commit=SOURCE))
     total = sum(os.path.getsize(os.path.join(folder, name)) for name in ["books", "answers", "made"])
-    print(f"{len(chosen)} vectors, {total} bytes; each of {len(WANTED)} things wanted is shown by {min(counts[x] for x in WANTED)} or more")
+    print(f"{len(chosen)} vectors, {total} bytes; each of {len(wanted)} things wanted is shown by {min(counts[x] for x in wanted)} or more")
     if total > 1_500_000:
         sys.exit("over 1.5 MB")
 

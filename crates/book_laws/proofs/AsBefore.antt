@@ -14,12 +14,14 @@ use Rattle.terms.specs.Limits.{signals, steps}
 use Rattle.number.specs.Number.{decimalOf, hexOf}
 use Rattle.number.specs.declared.Number.{Number}
 use Rattle.number.specs.declared.Number.the-variants as number
-use Rattle.line.specs.Text.{lines, fields, eqbs}
-use Rattle.line.specs.Word.{Entry, vocabulary, lookup, wordOf}
+use Rattle.words.specs.Same.{eqbs}
+use Rattle.words.proofs.Codes.{same-bytes}
+use Rattle.line.specs.Text.{lines, fields}
+use Rattle.words.specs.Word.{Entry, vocabulary, lookup, wordOf}
 use Rattle.line.specs.Line as spec
 use Rattle.line.specs.Line.{Content, rule, node, step, states, slot, sortOf, Line, bad, wrong, right, ruleKind, ruleLine, atomLine, boundLine, stepLine, noField, oneField, twoFields, content, ofFields, parse}
-use Rattle.line.specs.declared.word.Word.{Word}
-use Rattle.line.specs.declared.word.Word.the-variants as word
+use Rattle.words.specs.declared.word.Word.{Word}
+use Rattle.words.specs.declared.word.Word.the-variants as word
 use Rattle.line.specs.declared.line.Sort.{Sort}
 use Rattle.line.specs.declared.line.Sort.the-variants as sort
 use Rattle.line.specs.declared.line.Flaw.the-variants as flaw
@@ -173,15 +175,6 @@ refused-accepted e = let z : _≡_ {A = ℕ} 0 1 = cc in absurd (omega arith)
 
 accepted-is : {b c : Book} → accepted b ≡ accepted c → b ≡ c
 accepted-is e = cc
-
-same-bytes : (a b : List ℕ) → eqbs a b ≡ true → a ≡ b
-unfolding eqbs
-same-bytes [] [] e = refl
-same-bytes [] (y ∷ ys) e = let z : _≡_ {A = ℕ} 0 1 = cc in absurd (omega arith)
-same-bytes (x ∷ xs) [] e = let z : _≡_ {A = ℕ} 0 1 = cc in absurd (omega arith)
-same-bytes (x ∷ xs) (y ∷ ys) e =
-    let (p, q) = Rattle.reader.proofs.Sounds.both {a = eqb x y} {b = eqbs xs ys} e in
-    ap₂ _∷_ (borrow.Author.Tests.eqb-true x y p) (same-bytes xs ys q)
 
 states-unknown : lookup wordsBefore (115 ∷ 116 ∷ 97 ∷ 116 ∷ 101 ∷ 115 ∷ []) ≡ word.Unknown
 unfolding lookup eqbs

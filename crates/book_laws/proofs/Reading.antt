@@ -14,8 +14,9 @@ use Rattle.number.specs.declared.Number.the-variants.{Value, Wrong}
 use Rattle.formula.specs.Tree.{leaf-of, one-of, two-of, unknown}
 use Rattle.formula.specs.Formula.{Atom, Node, signal, var, input, output, not, next, always, eventually, always-for, within, and, or, implies, until}
 use Rattle.formula.specs.Table.{inWord}
-use Rattle.line.specs.Text.{parts, onto, lines, fields, eqbs}
-use Rattle.line.specs.Word.{wordOf, lookup}
+use Rattle.words.specs.Same.{eqbs}
+use Rattle.line.specs.Text.{parts, onto, lines, fields}
+use Rattle.words.specs.Word.{wordOf, lookup}
 use Rattle.line.specs.Line.{rule, node, step, states, slot, wrong, right, isLabel, kindByte, kindOf, ruleKind, ruleLine, atomLine, boundLine, stepLine, statesLine, widthLine, slotLine, content, ofFields, parse}
 use Rattle.line.specs.declared.line.Sort.the-variants as sort
 use Rattle.line.specs.declared.line.Flaw.the-variants as flaw

@@ -10,8 +10,9 @@ use lib.Dec.{leb}
 use lib.ListN.{length, take}
 use Rattle.terms.specs.Limits.{bookBytes}
 use Rattle.terms.specs.Choice.{pick}
-use Rattle.line.specs.Text.{lines, fields, eqbs}
-use Rattle.line.specs.Word.{Entry, vocabulary, lookup}
+use Rattle.words.specs.Same.{eqbs}
+use Rattle.line.specs.Text.{lines, fields}
+use Rattle.words.specs.Word.{Entry, vocabulary, lookup}
 use Rattle.line.specs.Line.{Line, bad, content}
 use Rattle.book.specs.Book.{Book, empty, whole, Fault, noWord, bySort, wrongField, stands, within, place, limit, firstFault, addLine, Outcome, accepted, refused, unless, ended}
 

@@ -1,6 +1,8 @@
 // Reads each stored book of data/ into tables that hold a mark at every place, and prints the answer, what the tables hold, whether every
 // place past the book keeps its mark, and the steps.
 use book::state::States;
+use letters::length;
+use letters::letter;
 use libc::STDOUT_FILENO;
 use reader::read::Answer;
 use reader::read::read_book;
@@ -12,12 +14,25 @@ use terms::limit::BOOK_SLOTS;
 use terms::limit::LABEL_BYTES;
 use terms::limit::LABELS_ROOM;
 use terms::limit::NAMES_ROOM;
+use terms::word::RULE;
+use terms::word::SLOT;
+use terms::word::STEP;
 
 // The most places that a table here has.
 const PLACES: usize = 2050;
 
 fn put(s: &[u8]) {
     io::write_all(STDOUT_FILENO, s);
+}
+
+// A line word, by its number.
+fn show_word(k: u8) {
+    let n = length(k);
+    let mut i: usize = 0;
+    while i < n {
+        put(&[letter(k, i)]);
+        i += 1;
+    }
 }
 
 // A number behind a tab.
@@ -160,7 +175,8 @@ fn show_slot(names: &[u8], sizes: &[usize], widths: &[u64], i: usize) {
     if names.len() < e {
         return;
     }
-    put(b"slot ");
+    show_word(SLOT);
+    put(b" ");
     put(&names[a..e]);
     if sizes.len() <= i {
         return;
@@ -198,7 +214,8 @@ fn show_rule(
     if labels.len() < e {
         return;
     }
-    put(b"rule ");
+    show_word(RULE);
+    put(b" ");
     put(&labels[a..e]);
     if lens.len() <= i {
         return;
@@ -263,7 +280,7 @@ fn show_steps(text: &[u8], from: usize) {
         match next_step(text, at) {
             StepRead::End => return,
             StepRead::Step { step, truths, next } => {
-                put(b"step");
+                show_word(STEP);
                 show(step);
                 show(truths);
                 put(b"\n");

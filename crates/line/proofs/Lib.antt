@@ -1,6 +1,5 @@
 -- Laws of the lines of a book.
 pub mod Texts
 pub mod Parts
-pub mod Words
 pub mod Lines
 pub mod Sane

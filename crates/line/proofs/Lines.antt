@@ -15,13 +15,14 @@ use Rattle.number.specs.Number.{decimalOf, hexOf}
 use Rattle.number.proofs.Numbers.{below-or}
 use Rattle.number.specs.declared.Number.{Number}
 use Rattle.number.specs.declared.Number.the-variants as number
-use Rattle.line.specs.Text.{parts, fields, eqbs, firstAt, Found}
-use Rattle.line.specs.Word.{wordOf}
+use Rattle.words.specs.Same.{eqbs}
+use Rattle.words.specs.Word.{wordOf}
+use Rattle.line.specs.Text.{parts, fields, firstAt, Found}
 use Rattle.line.specs.Line as spec
 use Rattle.line.specs.Line.{isLabel, kindOf, ruleKind, ruleLine, atomLine, boundLine, stepLine, statesLine, widthLine, slotLine, noField, oneField, twoFields, content, ofFields, parse, flawNumber}
 use Rattle.line.specs.Means.{held, sortIn, means, Meant, LineIs, Anywhere, FieldAt, ReadAs, behind, Tail, countOf}
-use Rattle.line.specs.declared.word.Word.{Word}
-use Rattle.line.specs.declared.word.Word.the-variants as word
+use Rattle.words.specs.declared.word.Word.{Word}
+use Rattle.words.specs.declared.word.Word.the-variants as word
 use Rattle.line.specs.declared.line.Sort.{Sort}
 use Rattle.line.specs.declared.line.Sort.the-variants as sort
 use Rattle.line.specs.declared.line.Flaw.{Flaw}

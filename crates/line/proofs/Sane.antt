@@ -14,12 +14,13 @@ use Rattle.terms.specs.Choice.{pick}
 use Rattle.number.specs.Number.{decimalOf, hexOf}
 use Rattle.number.specs.declared.Number.{Number}
 use Rattle.number.specs.declared.Number.the-variants.{Value, Wrong}
-use Rattle.line.specs.Text.{fields, eqbs}
-use Rattle.line.specs.Word.{Entry, vocabulary, lookup, wordOf}
+use Rattle.line.specs.Text.{fields}
+use Rattle.words.specs.Same.{eqbs}
+use Rattle.words.specs.Word.{Entry, vocabulary, lookup, wordOf}
 use Rattle.line.specs.Line.{Content, rule, node, step, states, slot, Line, bad, wrong, right}
 use Rattle.line.specs.Line.{isLabel, kindOf, ruleKind, ruleLine, atomLine, boundLine, stepLine, statesLine, widthLine, slotLine, noField, oneField, twoFields, content, ofFields, parse}
-use Rattle.line.specs.declared.word.Word.{Word}
-use Rattle.line.specs.declared.word.Word.the-variants as word
+use Rattle.words.specs.declared.word.Word.{Word}
+use Rattle.words.specs.declared.word.Word.the-variants as word
 use Rattle.line.specs.declared.line.Sort.{Sort}
 use Rattle.line.specs.declared.line.Sort.the-variants as sort
 use Rattle.line.specs.declared.line.Flaw.{Flaw}

@@ -9,7 +9,8 @@ use borrow.Author.Tests.{eq-eqb, ne-eqb, le-leb, lt-leb}
 use lib.Dec.{eqb, leb}
 use lib.ListN.{length, getD, take, drop, drop-of-length-le, length-drop}
 use lib.Seq.{drop-cons, take-all}
-use Rattle.line.specs.Text.{firstAt, eqbs, Found}
+use Rattle.words.specs.Same.{eqbs}
+use Rattle.line.specs.Text.{firstAt, Found}
 use Rattle.line.specs.Line.{printable, isLabel}
 
 -- ---- the first place of a byte
@@ -43,17 +44,6 @@ pub record Matching (a b : List ℕ) (i : ℕ) : Type 0 where
   pub inside : i ≤ length a
   pub lengths : length a ≡ length b
   pub same : eqbs a b ≡ eqbs (drop i a) (drop i b)
-
-pub other-length : (a b : List ℕ) → (length a ≡ length b → ⊥) → false ≡ eqbs a b
-unfolding eqbs
-other-length [] [] h = absurd (h refl)
-other-length [] (y ∷ ys) h = refl
-other-length (x ∷ xs) [] h = refl
-other-length (x ∷ xs) (y ∷ ys) h = rw (← other-length xs ys (λ e. h (ap suc e))) (go (eqb x y))
-  where
-    go : (p : Bool) → false ≡ (p && false)
-    go true = refl
-    go false = refl
 
 pub match-first : (a b : List ℕ) → length a ≡ length b → Matching a b 0
 match-first a b h = record { inside = omega arith; lengths = h; same = refl }

@@ -13,10 +13,11 @@ use Rattle.terms.specs.Choice.{pick}
 use Rattle.number.specs.Number.{decimalOf, hexOf}
 use Rattle.number.specs.declared.Number.{Number}
 use Rattle.number.specs.declared.Number.the-variants.{Value, Wrong}
-use Rattle.line.specs.Text.{fields, eqbs}
-use Rattle.line.specs.Word.{wordOf}
-use Rattle.line.specs.declared.word.Word.{Word}
-use Rattle.line.specs.declared.word.Word.the-variants.{Atom, Plain, Bounded, Rule, Step, States, Slot, Unknown}
+use Rattle.words.specs.Same.{eqbs}
+use Rattle.words.specs.Word.{wordOf}
+use Rattle.words.specs.declared.word.Word.{Word}
+use Rattle.words.specs.declared.word.Word.the-variants.{Atom, Plain, Bounded, Rule, Step, States, Slot, Unknown}
+use Rattle.line.specs.Text.{fields}
 use Rattle.line.specs.declared.line.Sort.{Sort}
 use Rattle.line.specs.declared.line.Sort.the-variants as sort
 use Rattle.line.specs.declared.line.Flaw.{Flaw}

@@ -2,7 +2,6 @@
 --     parts c e l      l cut at each byte c; what stands past the last c goes in front of the first of e, if there is one
 --     lines, fields    of a text; of a line
 use mathlib.Core.Path.{_≡_}
-use mathlib.Core.Bool.{Bool, true, false, _&&_}
 use mathlib.Core.List.{List, [], _∷_}
 use Prim.Native.Nat.{ℕ, zero, suc, _≤_}
 use lib.Dec.{eqb}
@@ -25,12 +24,6 @@ lines = parts 10 []
 -- the fields of a line: there is always a last one, perhaps empty
 abbrev pub fields : List ℕ → List (List ℕ)
 fields = parts 9 ([] ∷ [])
-
-unfoldable pub eqbs : List ℕ → List ℕ → Bool
-eqbs [] [] = true
-eqbs [] (y ∷ ys) = false
-eqbs (x ∷ xs) [] = false
-eqbs (x ∷ xs) (y ∷ ys) = eqb x y && eqbs xs ys
 
 -- the first place of a byte, or the length
 unfoldable pub firstAt : ℕ → List ℕ → ℕ

@@ -2,7 +2,8 @@
 ghost use mathlib.Core.Path.{_≡_};
 ghost use Prim.Native.Nat.{_≤_};
 ghost use lib.ListN.{length, take, drop};
-ghost use Rattle.line.specs.Text.{Found, eqbs};
+ghost use Rattle.line.specs.Text.{Found};
+ghost use Rattle.words.specs.Same.{eqbs};
 
 // The first place of a byte, or the length where it does not stand.
 pub fn find(s: &[u8], c: u8) -> usize

@@ -4,6 +4,8 @@
 use mathlib.Core.List.{List, [], _∷_}
 use Prim.Native.Nat.{ℕ}
 use Rattle.number.specs.Digits.{decimal}
+use Rattle.terms.specs.Words.{wordRule}
+use Rattle.words.specs.Word.{spellingOf}
 use Rattle.line.specs.Line.{kindByte}
 use Rattle.listing_line.specs.Line.{line, absent}
 use Rattle.listing_line.specs.declared.rule.Alike.{Alike}
@@ -13,7 +15,7 @@ use Rattle.listing_line.specs.declared.rule.Compiling.the-variants.{Comp
 
 -- `rule`
 abbrev pub ruleWord : List ℕ
-ruleWord = 114 ∷ 117 ∷ 108 ∷ 101 ∷ []
+ruleWord = spellingOf wordRule
 
 abbrev pub alikeText : Alike → List ℕ
 alikeText (To n) = decimal n

@@ -2,7 +2,9 @@
 use text::write::put_byte;
 use text::write::put_bytes;
 use text::write::put_decimal;
+use text::write::put_word;
 ghost use Rattle.number.specs.Digits.{decimal};
+ghost use Rattle.words.specs.Word.{spellingOf};
 ghost use Rattle.text.specs.Tape.{tape, Wrote};
 ghost use Rattle.listing_line.specs.Line.{marked, absent};
 
@@ -10,6 +12,14 @@ pub fn put_text(out: &mut [u8], at: usize, s: &[u8], mark: u8) -> usize
     ensures { λ r. ⌜ Wrote (tape (now (out .entry)) at) (marked (now (s .entry)) mark) (tape (now (out .exit)) r) ⌝ }
 {
     let place = put_bytes(out, at, s);
+    put_byte(out, place, mark)
+}
+
+// A line word, by its number.
+pub fn put_line_word(out: &mut [u8], at: usize, k: u8, mark: u8) -> usize
+    ensures { λ r. ⌜ Wrote (tape (now (out .entry)) at) (marked (spellingOf k) mark) (tape (now (out .exit)) r) ⌝ }
+{
+    let place = put_word(out, at, k);
     put_byte(out, place, mark)
 }
 

@@ -1,8 +1,10 @@
 // The `rule` line.
 use crate::field::put_absent;
+use crate::field::put_line_word;
 use crate::field::put_number;
 use crate::field::put_text;
 use terms::kind::PROPERTY;
+use terms::word::RULE;
 use text::write::put_byte;
 ghost use mathlib.Core.List.{[], _∷_};
 ghost use Rattle.number.specs.Digits.{decimal};
@@ -68,7 +70,7 @@ fn put_kind(out: &mut [u8], at: usize, kind: u8) -> usize
 fn put_rule_head(out: &mut [u8], at: usize, number: u64, label: &[u8]) -> usize
     ensures { λ r. ⌜ Wrote (tape (now (out .entry)) at) (tabbed (ruleWord ∷ decimal number ∷ now (label .entry) ∷ [])) (tape (now (out .exit)) r) ⌝ }
 {
-    let a = put_text(out, at, b"rule", 9);
+    let a = put_line_word(out, at, RULE, 9);
     let b = put_number(out, a, number, 9);
     put_text(out, b, label, 9)
 }

@@ -1,8 +1,9 @@
 -- THE WHOLE CASE of document 01 lists as it says there, and the other worked books as they stand in specs/Worked.antt.
 use mathlib.Core.Path.{refl}
 use Rattle.number.specs.Number.{digitOf, below, places, valueIn, plain, decimalOf, hexOf}
-use Rattle.line.specs.Text.{onto, parts, eqbs}
-use Rattle.line.specs.Word.{lookup, wordOf}
+use Rattle.words.specs.Same.{eqbs}
+use Rattle.words.specs.Word.{lookup, wordOf}
+use Rattle.line.specs.Text.{onto, parts}
 use Rattle.line.specs.Line.{printable, isLabel, kindOf, ruleKind, ruleLine, atomLine, boundLine, stepLine, statesLine, widthLine, slotLine, content, ofFields, parse}
 use Rattle.book.specs.Book.{opening, stands, opens, lastOf, within, firstFault, fault, bump, spend, add, readOn, ended, read}
 use Rattle.formula.specs.Tree.{size, depth, all, push, forest, treeOf}

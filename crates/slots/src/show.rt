@@ -7,14 +7,29 @@ use layout::rule::NodeSlot;
 use layout::rule::RuleBits;
 use layout::rule::layout_for;
 use layout::rule::node_slot;
+use letters::length;
+use letters::letter;
 use libc::STDOUT_FILENO;
 use terms::limit::BOOK_RULES;
 use terms::limit::BOOK_SLOTS;
+use terms::op::VAR;
+use terms::word::RULE;
+use terms::word::SLOT;
 ghost use Prim.Native.Nat.{_≤_, _<_};
 ghost use Rattle.terms.specs.Limits.{bookRules};
 
 fn put(s: &[u8]) {
     io::write_all(STDOUT_FILENO, s);
+}
+
+// A line word, by its number.
+fn show_word(k: u8) {
+    let n = length(k);
+    let mut i: usize = 0;
+    while i < n {
+        put(&[letter(k, i)]);
+        i += 1;
+    }
 }
 
 // A number behind a tab.
@@ -53,7 +68,7 @@ pub(crate) fn show_vars(places: &[u64; BOOK_SLOTS], widths: &[u64; BOOK_SLOTS], 
         if BOOK_SLOTS <= k {
             return;
         }
-        put(b"var");
+        show_word(VAR);
         show_place(k);
         show_number(places[k]);
         show_number(widths[k]);
@@ -85,7 +100,7 @@ fn show_slot(ops: &[u8], nums: &[u64], nodes: &[u64], a: Part, r: usize, j: usiz
         NodeSlot::Refused(n) => show_refused(b"node_slot", n),
         NodeSlot::At(slot) => {
             let piece = slot.piece;
-            put(b"slot");
+            show_word(SLOT);
             show_place(r);
             show_place(j);
             show_number(slot.offset);
@@ -110,7 +125,7 @@ fn show_rule(ops: &[u8], nums: &[u64], nodes: &[u64], a: Part, r: usize, start: 
     match layout_for(ops, nums, a.first, a.count, nodes, a.nfirst, a.ncount) {
         RuleBits::Refused(n) => show_refused(b"layout_for", n),
         RuleBits::Bits(own) => {
-            put(b"rule");
+            show_word(RULE);
             show_place(r);
             show_number(start);
             show_number(bits);

@@ -2,6 +2,7 @@
 pub mod Choice
 pub mod Limits
 pub mod Ops
+pub mod Words
 pub mod Forms
 pub mod Kinds
 pub mod Entries

@@ -4,3 +4,4 @@ pub mod form;
 pub mod kind;
 pub mod limit;
 pub mod op;
+pub mod word;

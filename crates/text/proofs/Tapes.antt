@@ -18,6 +18,7 @@ use lib.ListN.{length, set, getD, take, drop, length-set}
 use lib.Seq.{sets, sets-eq, take-suc, take-length, take-at, drop-at}
 use Rattle.number.proofs.Numbers.{below-or}
 use Rattle.number.specs.Digits.{digits, decimal}
+use Rattle.words.specs.Word.{spellingOf, lengthOf, letterOf}
 use Rattle.text.specs.Tape.{Tape, tape, put, puts, Wrote, joined, signed, Culprit, nobody, step}
 
 -- ---- one text behind another
@@ -83,6 +84,16 @@ pub begun-all : (a b : Tape) (s : List ℕ) (i : ℕ) → Begun a s i b → leng
 begun-all a b s i p h =
     let e : i ≡ length s = omega (arith, p .within) in
     subst (λ (x : List ℕ). Wrote a x b) (ap (λ (n : ℕ). take n s) e ∙ take-length s) (p .wrote)
+
+-- the same of a word, by its length and its letters
+pub word-next : (a b c : Tape) (k i n x : ℕ) → n ≡ lengthOf k → x ≡ letterOf k i → Begun a (spellingOf k) i b → i < n → Wrote b (x ∷ []) c
+    → Begun a (spellingOf k) (i + 1) c
+unfolding lengthOf letterOf
+word-next a b c k i n x e f p h q = begun-next a b c (spellingOf k) i p (rw e at h) (subst (λ (y : ℕ). Wrote b (y ∷ []) c) f q)
+
+pub word-all : (a b : Tape) (k i n : ℕ) → n ≡ lengthOf k → Begun a (spellingOf k) i b → n ≤ i → Wrote a (spellingOf k) b
+unfolding lengthOf
+word-all a b k i n e p h = begun-all a b (spellingOf k) i p (rw e at h)
 
 -- ---- a number: more digits than it has change nothing
 digits-more : (k n : ℕ) → n < 10 ^ k → 1 ≤ k → digits (suc k) n ≡ digits k n

@@ -1,6 +1,9 @@
 // Bytes and numbers, each written at a place of a lent slice. The answer is the place behind them.
+use letters::length;
+use letters::letter;
 ghost use mathlib.Core.List.{[], _∷_};
 ghost use Rattle.number.specs.Digits.{decimal};
+ghost use Rattle.words.specs.Word.{spellingOf};
 ghost use Rattle.text.specs.Tape.{tape, Wrote, signed, Culprit};
 
 // One byte.
@@ -22,6 +25,20 @@ pub fn put_bytes(out: &mut [u8], at: usize, s: &[u8]) -> usize
     let mut i: usize = 0;
     while i < s.len() {
         place = put_byte(out, place, s[i]);
+        i += 1;
+    }
+    place
+}
+
+// The letters of a line word, by its number.
+pub fn put_word(out: &mut [u8], at: usize, k: u8) -> usize
+    ensures { λ r. ⌜ Wrote (tape (now (out .entry)) at) (spellingOf k) (tape (now (out .exit)) r) ⌝ }
+{
+    let n = length(k);
+    let mut place = at;
+    let mut i: usize = 0;
+    while i < n {
+        place = put_byte(out, place, letter(k, i));
         i += 1;
     }
     place

@@ -61,7 +61,7 @@ fn root_culprit(culprits: &[i64]) -> i64 {
 fn show_verdict(verdict: Verdict, s: u64, culprit: i64, reported: bool) -> bool {
     match verdict {
         Verdict::Refused(n) => {
-            show(b", step refused ", n);
+            show(b", call refused ", n);
             return reported;
         }
         Verdict::Accepted(now) => {

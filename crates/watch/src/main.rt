@@ -138,7 +138,7 @@ fn watch_book(text: &[u8]) {
             states: _,
         } => {
             if rules == 0 {
-                put(b"no rule\n");
+                put(b"nothing to watch\n");
                 return;
             }
             show_watched(watch_rule(text, steps_at, table, firsts[0], counts[0]));

@@ -5,13 +5,14 @@ use Rattle.book_tests.proofs.show_steps.Reads as reads
 use Rattle.book_tests.proofs.show_steps.Lts as lts
 use Rattle.book_tests.proofs.put.Reads as put-reads
 use Rattle.book_tests.proofs.show.Reads as show-reads
+use Rattle.book_tests.proofs.show_word.Reads as show-word-reads
 use Rattle.reader.proofs.steps.next_step.Reads as next-step-reads
 
 abbrev Inv-loop : tie.InvT-loop
-Inv-loop text from at₀ left₀ t8 t9 at left = Unit {0}
+Inv-loop text from at₀ left₀ t8 at left = Unit {0}
 
 abbrev μ-loop : tie.MeasureT-loop
-μ-loop text from at₀ left₀ t8 t9 at left = left
+μ-loop text from at₀ left₀ t8 at left = left
 
 loop-holds : tie.Need-loop-holds Inv-loop μ-loop
 loop-holds c = search needs
@@ -28,11 +29,8 @@ returns c = search needs
 enum-known-step : tie.Need-enum-known-step Inv-loop μ-loop
 enum-known-step c = search needs
 
-slice-aggregate-put : tie.Need-slice-aggregate-put Inv-loop μ-loop
-slice-aggregate-put c = search needs
-
-put-requires : tie.Need-put-requires Inv-loop μ-loop
-put-requires c κs = search needs
+show-word-requires : tie.Need-show-word-requires Inv-loop μ-loop
+show-word-requires c κs = search needs
 
 show-requires : tie.Need-show-requires Inv-loop μ-loop
 show-requires c κs = search needs
@@ -40,11 +38,11 @@ show-requires c κs = search needs
 show-requires-2 : tie.Need-show-requires-2 Inv-loop μ-loop
 show-requires-2 c κs = search needs
 
-slice-aggregate-put-2 : tie.Need-slice-aggregate-put-2 Inv-loop μ-loop
-slice-aggregate-put-2 c = search needs
+slice-aggregate-put : tie.Need-slice-aggregate-put Inv-loop μ-loop
+slice-aggregate-put c = search needs
 
-put-requires-2 : tie.Need-put-requires-2 Inv-loop μ-loop
-put-requires-2 c κs = search needs
+put-requires : tie.Need-put-requires Inv-loop μ-loop
+put-requires c κs = search needs
 
 sub-left : tie.Need-sub-left Inv-loop μ-loop
 sub-left c = search needs
@@ -69,12 +67,11 @@ show-steps-spec =
     enum-told
     returns
     enum-known-step
-    slice-aggregate-put
-    put-requires
+    show-word-requires
     show-requires
     show-requires-2
-    slice-aggregate-put-2
-    put-requires-2
+    slice-aggregate-put
+    put-requires
     sub-left
     loop-less
     loop-again

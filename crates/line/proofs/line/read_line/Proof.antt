@@ -9,7 +9,6 @@ use Rattle.line.proofs.line.by_word.Reads as by-word-reads
 use Rattle.line.proofs.line.count.Reads as count-reads
 use Rattle.line.proofs.text.find.Reads as find-reads
 use Rattle.line.proofs.text.upto.Reads as upto-reads
-use Rattle.line.proofs.word.look_up.Reads as look-up-reads
 
 find-requires : tie.Need-find-requires
 find-requires c κs = search needs

@@ -1,6 +1,7 @@
 use Prim.Native.Nat.{_-_}
 use lib.ListN.{length}
-use Rattle.line.proofs.Texts.{Matching, other-length, match-first, match-other, match-next, match-in, match-end}
+use Rattle.words.proofs.Codes.{other-length}
+use Rattle.line.proofs.Texts.{Matching, match-first, match-other, match-next, match-in, match-end}
 use borrow.Author.Needs.{needs}
 use Rattle.line.proofs.text.same.Statement.{statement}
 use Rattle.line.proofs.text.same.Tie as tie

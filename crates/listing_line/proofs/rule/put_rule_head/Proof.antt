@@ -4,20 +4,18 @@ use Rattle.listing_line.proofs.rule.put_rule_head.Statement.{statement}
 use Rattle.listing_line.proofs.rule.put_rule_head.Tie as tie
 use Rattle.listing_line.proofs.rule.put_rule_head.Reads as reads
 use Rattle.listing_line.proofs.rule.put_rule_head.Lts as lts
+use Rattle.listing_line.proofs.field.put_line_word.Reads as put-line-word-reads
 use Rattle.listing_line.proofs.field.put_number.Reads as put-number-reads
 use Rattle.listing_line.proofs.field.put_text.Reads as put-text-reads
 
-slice-aggregate-put-text : tie.Need-slice-aggregate-put-text
-slice-aggregate-put-text c = search needs
-
-put-text-requires : tie.Need-put-text-requires
-put-text-requires c κs = search needs
+put-line-word-requires : tie.Need-put-line-word-requires
+put-line-word-requires c κs = search needs
 
 put-number-requires : tie.Need-put-number-requires
 put-number-requires c κs = search needs
 
-put-text-requires-2 : tie.Need-put-text-requires-2
-put-text-requires-2 c κs = search needs
+put-text-requires : tie.Need-put-text-requires
+put-text-requires c κs = search needs
 
 same-length : tie.Need-same-length
 same-length c = search needs
@@ -29,9 +27,8 @@ pub put-rule-head-spec : {M : Type 1} → statement M
 put-rule-head-spec =
     tie.close
     (tie.spec
-    slice-aggregate-put-text
-    put-text-requires
+    put-line-word-requires
     put-number-requires
-    put-text-requires-2
+    put-text-requires
     same-length
     returns)

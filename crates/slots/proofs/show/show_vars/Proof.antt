@@ -7,12 +7,13 @@ use Rattle.slots.proofs.show.show_vars.Lts as lts
 use Rattle.slots.proofs.show.put.Reads as put-reads
 use Rattle.slots.proofs.show.show_number.Reads as show-number-reads
 use Rattle.slots.proofs.show.show_place.Reads as show-place-reads
+use Rattle.slots.proofs.show.show_word.Reads as show-word-reads
 
 abbrev Inv-loop : tie.InvT-loop
-Inv-loop places widths m k₀ t5 t6 k = Unit {0}
+Inv-loop places widths m k₀ t5 k = Unit {0}
 
 abbrev μ-loop : tie.MeasureT-loop
-μ-loop places widths m k₀ t5 t6 k = m - k
+μ-loop places widths m k₀ t5 k = m - k
 
 loop-holds : tie.Need-loop-holds Inv-loop μ-loop
 loop-holds c = search needs
@@ -20,11 +21,8 @@ loop-holds c = search needs
 returns : tie.Need-returns Inv-loop μ-loop
 returns c = search needs
 
-slice-aggregate-put : tie.Need-slice-aggregate-put Inv-loop μ-loop
-slice-aggregate-put c = search needs
-
-put-requires : tie.Need-put-requires Inv-loop μ-loop
-put-requires c κs = search needs
+show-word-requires : tie.Need-show-word-requires Inv-loop μ-loop
+show-word-requires c κs = search needs
 
 show-place-requires : tie.Need-show-place-requires Inv-loop μ-loop
 show-place-requires c κs = search needs
@@ -47,11 +45,11 @@ element-copy-out-show-number-2 c = search needs
 show-number-requires-2 : tie.Need-show-number-requires-2 Inv-loop μ-loop
 show-number-requires-2 c κs = search needs
 
-slice-aggregate-put-2 : tie.Need-slice-aggregate-put-2 Inv-loop μ-loop
-slice-aggregate-put-2 c = search needs
+slice-aggregate-put : tie.Need-slice-aggregate-put Inv-loop μ-loop
+slice-aggregate-put c = search needs
 
-put-requires-2 : tie.Need-put-requires-2 Inv-loop μ-loop
-put-requires-2 c κs = search needs
+put-requires : tie.Need-put-requires Inv-loop μ-loop
+put-requires c κs = search needs
 
 add-k : tie.Need-add-k Inv-loop μ-loop
 add-k c = search needs
@@ -73,8 +71,7 @@ show-vars-spec =
     μ-loop
     loop-holds
     returns
-    slice-aggregate-put
-    put-requires
+    show-word-requires
     show-place-requires
     mul-show-number
     element-copy-out-show-number
@@ -82,8 +79,8 @@ show-vars-spec =
     mul-show-number-2
     element-copy-out-show-number-2
     show-number-requires-2
-    slice-aggregate-put-2
-    put-requires-2
+    slice-aggregate-put
+    put-requires
     add-k
     loop-less
     loop-again

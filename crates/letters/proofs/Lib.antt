@@ -1,0 +1,2 @@
+-- Laws of the letters.
+pub mod Places

@@ -1,0 +1,2 @@
+-- The letters of words, one by one.
+pub mod Letters

@@ -1,0 +1,4 @@
+-- Laws of the words.
+pub mod Codes
+pub mod Lookups
+pub mod Spelled
