@@ -6,7 +6,8 @@ use native.Mathlib.Omega.{arith}
 use lib.ListN.{length, getD}
 use Rattle.terms.specs.Words.{lineWords}
 use Rattle.letters.specs.Letters.{Letters}
-use Rattle.words.specs.Word.{Entry, vocabulary, entryAt, spellingOf, lengthOf, letterOf}
+use Rattle.words.specs.Word.{Entry, vocabulary, spellingOf, lengthOf, letterOf}
+use Rattle.words.proofs.Spelled.{entry-past}
 
 -- ---- letter by letter
 letters-at : (l : List ℕ) (o i j r : ℕ) → j ≡ o + i → Letters l o j r → r ≡ getD l i 0
@@ -28,15 +29,13 @@ none-below : (n k : ℕ) → NoneBelow n k → n ≤ k
 none-below zero k h = omega arith
 none-below (suc n) k h = let p : n ≤ k = none-below n k (h .0) in omega (arith, h .1)
 
-entry-past : (es : List Entry) (k : ℕ) → length es ≤ k → entryAt es k .spelling ≡ []
-entry-past [] k h = refl
-entry-past (e ∷ es) zero h = absurd (omega arith)
-entry-past (e ∷ es) (suc k) h = entry-past es k (omega arith)
+none-spelled : (k : ℕ) → NoneBelow lineWords k → spellingOf k ≡ []
+none-spelled k h = ap (λ (e : Entry). e .spelling) (entry-past vocabulary k (none-below lineWords k h))
 
 pub no-letter : (k i : ℕ) → NoneBelow lineWords k → 0 ≡ letterOf k i
 unfolding letterOf
-no-letter k i h = ap (λ (l : List ℕ). getD l i 0) (sym (entry-past vocabulary k (none-below lineWords k h)))
+no-letter k i h = ap (λ (l : List ℕ). getD l i 0) (sym (none-spelled k h))
 
 pub no-length : (k : ℕ) → NoneBelow lineWords k → 0 ≡ lengthOf k
 unfolding lengthOf
-no-length k h = ap length (sym (entry-past vocabulary k (none-below lineWords k h)))
+no-length k h = ap length (sym (none-spelled k h))

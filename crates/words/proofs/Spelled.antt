@@ -40,7 +40,8 @@ place-spelled (e ∷ es) f h = go (eqbs f (e .spelling)) refl h (place-spelled e
     go true p h k = same-bytes f (e .spelling) p
     go false p h k = k (omega arith)
 
-entry-past : (es : List Entry) (k : ℕ) → length es ≤ k → entryAt es k .word ≡ Unknown
+-- past the last there is no word, and nothing is spelled
+pub entry-past : (es : List Entry) (k : ℕ) → length es ≤ k → entryAt es k ≡ record { spelling = []; word = Unknown }
 entry-past [] k h = refl
 entry-past (e ∷ es) zero h = absurd (omega arith)
 entry-past (e ∷ es) (suc k) h = entry-past es k (omega arith)
@@ -96,4 +97,4 @@ spellings = record {
     said f true p =
         subst (Says f) (sym (word-at f)) (spelled (place vocabulary f) (ltb-true _ _ p) (place-spelled vocabulary f (ltb-true _ _ p)))
     said f false p =
-        subst (Says f) (sym (word-at f ∙ entry-past vocabulary (place vocabulary f) (ltb-false _ _ p))) (none (none-spelled f (ltb-false _ _ p)))
+        subst (Says f) (sym (word-at f ∙ ap (λ (e : Entry). e .word) (entry-past vocabulary (place vocabulary f) (ltb-false _ _ p)))) (none (none-spelled f (ltb-false _ _ p)))

@@ -28,10 +28,10 @@ as-one-requires-2 : tie.Need-as-one-requires-2
 as-one-requires-2 c κs = search needs
 
 returns : tie.Need-returns
-returns c = search (needs, found 5 3, passed 5 3, none-left)
+returns c = search (needs, found 5 3)
 
 returns-2 : tie.Need-returns-2
-returns-2 c = search (needs, found 5 3, passed 5 3, none-left)
+returns-2 c = search (needs, passed 5 3, none-left)
 
 pub of-five-spec : {M : Type 1} → statement M
 of-five-spec =

@@ -34,10 +34,10 @@ as-one-requires-2 : tie.Need-as-one-requires-2
 as-one-requires-2 c κs = search needs
 
 returns : tie.Need-returns
-returns c = search (needs, found 7 1, passed 7 1, none-left)
+returns c = search (needs, found 7 1)
 
 returns-2 : tie.Need-returns-2
-returns-2 c = search (needs, found 7 1, passed 7 1, none-left)
+returns-2 c = search (needs, passed 7 1, none-left)
 
 pub of-seven-spec : {M : Type 1} → statement M
 of-seven-spec =

@@ -31,22 +31,22 @@ as-one-requires-2 : tie.Need-as-one-requires-2
 as-one-requires-2 c κs = search needs
 
 returns : tie.Need-returns
-returns c = search (needs, found 6 2, passed 6 2, none-left)
+returns c = search (needs, found 6 2)
 
 as-one-requires-3 : tie.Need-as-one-requires-3
 as-one-requires-3 c κs = search needs
 
 returns-2 : tie.Need-returns-2
-returns-2 c = search (needs, found 6 2, passed 6 2, none-left)
+returns-2 c = search (needs, found 6 2, passed 6 2)
 
 as-one-requires-4 : tie.Need-as-one-requires-4
 as-one-requires-4 c κs = search needs
 
 returns-3 : tie.Need-returns-3
-returns-3 c = search (needs, found 6 2, passed 6 2, none-left)
+returns-3 c = search (needs, found 6 2, passed 6 2)
 
 returns-4 : tie.Need-returns-4
-returns-4 c = search (needs, found 6 2, passed 6 2, none-left)
+returns-4 c = search (needs, passed 6 2, none-left)
 
 pub of-six-spec : {M : Type 1} → statement M
 of-six-spec =

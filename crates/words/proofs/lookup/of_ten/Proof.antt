@@ -10,16 +10,16 @@ ten-requires : tie.Need-ten-requires
 ten-requires c κs = search needs
 
 returns : tie.Need-returns
-returns c = search (needs, found-so, passed-so, none-left)
+returns c = search (needs, found-so)
 
 ten-requires-2 : tie.Need-ten-requires-2
 ten-requires-2 c κs = search needs
 
 returns-2 : tie.Need-returns-2
-returns-2 c = search (needs, found-so, passed-so, none-left)
+returns-2 c = search (needs, found-so, passed-so)
 
 returns-3 : tie.Need-returns-3
-returns-3 c = search (needs, found-so, passed-so, none-left)
+returns-3 c = search (needs, passed-so, none-left)
 
 pub of-ten-spec : {M : Type 1} → statement M
 of-ten-spec = tie.close (tie.spec ten-requires returns ten-requires-2 returns-2 returns-3)

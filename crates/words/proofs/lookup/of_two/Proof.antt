@@ -19,16 +19,16 @@ as-one-requires-2 : tie.Need-as-one-requires-2
 as-one-requires-2 c κs = search needs
 
 returns : tie.Need-returns
-returns c = search (needs, found 2 6, passed 2 6, none-left)
+returns c = search (needs, found 2 6)
 
 as-one-requires-3 : tie.Need-as-one-requires-3
 as-one-requires-3 c κs = search needs
 
 returns-2 : tie.Need-returns-2
-returns-2 c = search (needs, found 2 6, passed 2 6, none-left)
+returns-2 c = search (needs, found 2 6, passed 2 6)
 
 returns-3 : tie.Need-returns-3
-returns-3 c = search (needs, found 2 6, passed 2 6, none-left)
+returns-3 c = search (needs, passed 2 6, none-left)
 
 pub of-two-spec : {M : Type 1} → statement M
 of-two-spec =
