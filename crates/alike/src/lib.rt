@@ -1,4 +1,6 @@
 // Likeness of two compiled rules: nodes agree one for one, signal text compared with v, i, o taken as one letter.
+#![tactic(auto)]
+
 use crate::node::same_nodes;
 use formula::table::is_roomy;
 use monitor::table::is_compiled;
@@ -12,7 +14,7 @@ ghost use Rattle.formula.specs.Table.{is_some};
 ghost use Rattle.alike.specs.Alike.{part_of, result_of, likeness_call};
 
 // A compiled rule in the tables: its formula's first place and count, its nodes' first row and count.
-#[derive(Drop)]
+#[derive(Clone, Copy)]
 pub struct Part {
     pub first: usize,
     pub count: usize,
@@ -21,7 +23,7 @@ pub struct Part {
 }
 
 // Whether two compiled rules are alike, or the refusal.
-#[derive(Drop)]
+#[derive(Clone, Copy)]
 pub enum Likeness {
     Alike,
     Unlike,

@@ -9,21 +9,21 @@ use monitor::node::SignalExpr;
 use terms::op::{IMPLIES, NEXT, NOT, OR};
 
 // A sign of a text: an atom by its operation and signal, or a word's byte.
-#[derive(Drop)]
+#[derive(Clone, Copy)]
 pub enum Sign {
     Atom(u8, u64),
     Word(u8),
 }
 
 // A place, and whether the `!` of the implies before it is still owed.
-#[derive(Drop)]
+#[derive(Clone, Copy)]
 pub struct Cursor {
     pub at: usize,
     pub owes: bool,
 }
 
 // The sign at a cursor and the cursor behind it, or the text's end.
-#[derive(Drop)]
+#[derive(Clone, Copy)]
 pub enum Next {
     Here(Sign, Cursor),
     End,

@@ -1,4 +1,6 @@
 // Bits in bytes: bit k is bit k mod 8, lowest first, of byte k div 8 (document 02, order 3).
+#![tactic(auto)]
+
 ghost use Rattle.std.specs.Prelude.{◌≡◌, true, false, ◌+◌, ◌-◌, ◌*◌, ◌/◌, ◌%◌, ◌^◌, ◌≤◌, ◌<◌, length};
 ghost use Rattle.bits.specs.Bits.{bit_in, blank, digits, ink_bit, ink_bits, number, spelled, Room};
 

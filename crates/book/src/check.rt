@@ -10,7 +10,7 @@ use line::text::{find, past, upto};
 use terms::limit::BOOK_BYTES;
 
 // `head` is the number of bytes before the step lines; `slots` counts the slots.
-#[derive(Drop)]
+#[derive(Clone, Copy)]
 pub enum Checked {
     Good {
         rules: usize,

@@ -17,7 +17,7 @@ const UNOPENED: u8 = 25;
 const LIMIT: u8 = 9;
 
 // The count of states, or that no `states` line stood.
-#[derive(Drop)]
+#[derive(Clone, Copy)]
 pub enum States {
     Absent,
     Stood(u64),
@@ -33,7 +33,7 @@ pub fn state_count(s: States) -> u64
     }
 }
 
-#[derive(Drop)]
+#[derive(Clone, Copy)]
 pub struct State {
     pub rules: usize,
     pub nodes: usize,
@@ -47,7 +47,7 @@ pub struct State {
 }
 
 // The next state, or the refusal's number.
-#[derive(Drop)]
+#[derive(Clone, Copy)]
 pub enum Taken {
     Next(State),
     Faulty(u8),

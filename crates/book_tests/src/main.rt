@@ -1,5 +1,7 @@
 // Reads each stored book of data/ into tables that hold a mark at every place, and prints the answer, what the tables hold, whether every
 // place past the book keeps its mark, and the steps.
+#![tactic(auto)]
+
 use book::state::States;
 use letters::{length, letter};
 use libc::STDOUT_FILENO;

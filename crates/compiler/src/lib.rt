@@ -1,4 +1,6 @@
 // The compiler: a rule's formula into monitor nodes (`compile_formula`).
+#![tactic(auto)]
+
 ghost use Rattle.std.specs.Prelude.{◌≡◌, true, false, ◌+◌, ◌*◌, ◌≤◌, ◌<◌, ◌^◌, length, get_or, take};
 ghost use Rattle.std.proofs.lemmas.List.Edits.{sets};
 ghost use Rattle.terms.specs.Limits.{node_cells, row_cells};
@@ -17,7 +19,7 @@ use terms::limit::{NODE_CELLS, ROW_CELLS};
 use terms::op::{ALWAYS, ALWAYS_FOR, AND, IMPLIES, IN, NEXT, NOT, OR, OUT, VAR, WITHIN};
 
 // Where a walk's nodes and its formula end, or the refusal.
-#[derive(Drop)]
+#[derive(Clone, Copy)]
 pub enum Laid {
     Upto(usize, usize),
     Refused(u64),
@@ -327,7 +329,7 @@ fn copy(from: &[u64], to: &mut [u64], n: usize)
 }
 
 // The count of a rule's nodes, or the refusal.
-#[derive(Drop)]
+#[derive(Clone, Copy)]
 pub enum Compiled {
     Nodes(usize),
     Refused(u64),

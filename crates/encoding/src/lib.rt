@@ -1,4 +1,6 @@
 // The bits of a configuration: the state's, then the slots', then the monitors' (`config_encoding` of src/mc/plan.rs).
+#![tactic(auto)]
+
 ghost use Rattle.std.specs.Prelude.{◌≡◌, ◌^◌, ◌<◌, ◌≤◌, length, take};
 ghost use Rattle.std.proofs.lemmas.List.Edits.{sets};
 ghost use Rattle.terms.specs.Limits.{book_slots, state_counts};
@@ -9,7 +11,7 @@ use plan::layout::{ceil_log2, kind_bits};
 use terms::limit::{BOOK_SLOTS, SLOT_MOST, STATES};
 
 // The bits of the state, of all slots, of all monitors and of the whole, and the whole in bytes.
-#[derive(Drop)]
+#[derive(Clone, Copy)]
 pub struct ConfigEncoding {
     pub state_bits: u64,
     pub vars_bits: u64,

@@ -1,12 +1,12 @@
 -- A formula that stands at a place of a table: the operands stand at the places behind it.
-use mathlib.Core.Path.{◌≡◌, refl, sym, ap, subst, ◌∙◌}
+use mathlib.Core.Path.{◌≡◌, sym, ap, subst}
 use mathlib.Core.List.{List}
 use Prim.Native.Nat.{ℕ, ◌+◌, ◌-◌, ◌≤◌, ◌<◌}
 use native.Mathlib.Omega.{arith}
 use Rattle.formula.proofs.Cases.{below_or}
 use mathlib.Core.Logic.{⊎_elim}
 use lib.ListN.{length, get_or}
-use Rattle.formula.specs.Tree.{leaf, one, two, leaf_of, one_of, two_of, size}
+use Rattle.formula.specs.Tree.{leaf, one, two, one_of, two_of, size}
 use Rattle.formula.specs.Spells.{Spells}
 use Rattle.formula.specs.Formula.{Atom, Unary, Binary, Formula, signal}
 use Rattle.formula.specs.Table.{node_at, Placed}

@@ -7,9 +7,9 @@ use Prim.Native.Nat.{ℕ, ◌+◌, ◌-◌, ◌≤◌, ◌<◌}
 use native.Mathlib.Omega.{arith}
 use borrow.Author.Tests.{le-leb, lt-leb, leb-true}
 use lib.Dec.{leb}
-use lib.ListN.{length, get_or}
+use lib.ListN.{length}
 use Rattle.formula.specs.Tree.{tree_of, size, depth, all}
-use Rattle.formula.specs.Spells.{run, Spells}
+use Rattle.formula.specs.Spells.{run}
 use Rattle.formula.specs.Formula.{Formula}
 use Rattle.formula.specs.Table.{node_at, in_word, keep, limited, in_table, rule_of, Rule, IsRule, is_some, roomy}
 use Rattle.formula.specs.Walk.{Stands, Walked}

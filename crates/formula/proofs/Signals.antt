@@ -4,14 +4,13 @@ use mathlib.Core.Bool.{Bool, true, false, ◌&&◌, ◌||◌}
 use mathlib.Core.Bool as bool
 use mathlib.Core.List.{List}
 use mathlib.Core.Logic.{⊎_elim}
-use Prim.Native.Nat.{ℕ, zero, suc, ◌+◌, ◌-◌, ◌*◌, ◌≤◌, ◌<◌}
+use Prim.Native.Nat.{ℕ, ◌+◌, ◌*◌, ◌≤◌, ◌<◌}
 use native.Mathlib.Omega.{arith}
-use lib.Dec.{ltb}
 use borrow.Author.Tests.{lt-ltb, le-ltb, leb-true}
 use lib.ListN.{length, get_or}
-use Rattle.formula.specs.Tree.{leaf, one, two, leaf_of, one_of, two_of, size, all}
+use Rattle.formula.specs.Tree.{one, two, one_of, two_of, size, all}
 use Rattle.formula.specs.Spells.{Spells}
-use Rattle.formula.specs.Formula.{Atom, Unary, Binary, Formula, Node, node, signal, not, next, always, eventually, always_for, within, and, or, implies, until}
+use Rattle.formula.specs.Formula.{Unary, Binary, Formula, signal, not, next, always, eventually, always_for, within, and, or, implies, until}
 use Rattle.formula.specs.Table.{node_at, in_word, Placed}
 use Rattle.formula.specs.Pure.{pure, value, joined, bit}
 use Rattle.formula.specs.Signal.{end_if, Purely, Signalled, Valued, signal_nodes}
@@ -22,7 +21,7 @@ use Rattle.formula.proofs.Cases.{below_or, true_false}
 use Rattle.formula.proofs.Trees.{spells_unique}
 use Rattle.formula.proofs.Nodes.{number_of, unary_number, binary_number}
 use Rattle.formula.proofs.Walks.{both_true, stuck_upto, upto_inj}
-use Rattle.formula.proofs.Places.{leaf_there, one_there, two_there, in_ops, in_nums, placed_one, placed_left, placed_right, fewer_one, fewer_left, fewer_right}
+use Rattle.formula.proofs.Places.{leaf_there, one_there, two_there, in_ops, in_nums, placed_one, placed_right, fewer_one, fewer_left, fewer_right}
 
 -- ---- purity
 pure_one : (o : Unary) (f : Formula) → number_of (one_of o) ≡ 3 → pure (one o f) ≡ pure f

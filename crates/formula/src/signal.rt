@@ -43,7 +43,7 @@ fn truth(word: u64, n: u64) -> bool
 }
 
 // A signal's value, and where the formula ends.
-#[derive(Drop)]
+#[derive(Clone, Copy)]
 pub struct Value {
     pub value: bool,
     pub end: usize,

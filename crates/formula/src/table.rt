@@ -7,7 +7,7 @@ use terms::limit::{BOOK_NODES, DEEPEST, RULE_NODES, SIGNALS};
 use terms::op::{AND, NOT, WORDS};
 
 // Where the tree at a place ends, or that none within the limits stands there.
-#[derive(Drop)]
+#[derive(Clone, Copy)]
 pub enum Walk {
     Upto(usize),
     Stuck,

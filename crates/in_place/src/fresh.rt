@@ -7,7 +7,7 @@ use crate::ReferenceMonitor;
 use stepping::fresh::Outcome;
 
 // The answer to making a monitor, and the monitor afterwards.
-#[derive(Drop)]
+#[derive(Clone, Copy)]
 pub struct Started {
     pub monitor: ReferenceMonitor,
     pub outcome: Outcome,

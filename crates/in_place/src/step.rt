@@ -7,7 +7,7 @@ use crate::ReferenceMonitor;
 use stepping::call::Verdict;
 
 // The answer to a step call, and the monitor afterwards.
-#[derive(Drop)]
+#[derive(Clone, Copy)]
 pub struct Advanced {
     pub monitor: ReferenceMonitor,
     pub verdict: Verdict,

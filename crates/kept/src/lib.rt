@@ -1,4 +1,6 @@
 // What a node keeps in its rule's bits, and those bits in bytes (document 02, order 3).
+#![tactic(auto)]
+
 ghost use Rattle.std.specs.Prelude.{◌≡◌, ◌+◌, ◌*◌, ◌≤◌, length};
 ghost use Rattle.terms.specs.Limits.{row_cells};
 ghost use Rattle.bits.specs.Bits.{bit_in};
@@ -11,7 +13,7 @@ use node_step::state::{MonState, initial_state};
 use plan::layout::width_of;
 
 // Nothing, a delayed check's antecedent, or the window of an obligation with a bound.
-#[derive(Drop)]
+#[derive(Clone, Copy)]
 pub enum Keep {
     Nothing,
     Antecedent,

@@ -14,7 +14,7 @@ use plan::layout::arrange;
 use terms::limit::{BOOK_RULES, BOOK_SLOTS, NODE_CELLS};
 
 // The layout is made, with the numbers of the whole, or a refusal's number.
-#[derive(Drop)]
+#[derive(Clone, Copy)]
 pub enum BookLayout {
     Done(ConfigEncoding),
     Refused(u64),

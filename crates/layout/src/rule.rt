@@ -6,14 +6,14 @@ use plan::layout::Slot;
 use terms::limit::NODE_CELLS;
 
 // The bits of a rule, or a refusal's number.
-#[derive(Drop)]
+#[derive(Clone, Copy)]
 pub enum RuleBits {
     Bits(u64),
     Refused(u64),
 }
 
 // A node's slot, or a refusal's number.
-#[derive(Drop)]
+#[derive(Clone, Copy)]
 pub enum NodeSlot {
     At(Slot),
     Refused(u64),

@@ -74,7 +74,7 @@ pub fn split_over(
     table: [FormulaNode; BOOK_NODES],
     first: usize,
     count: usize,
-    assumption: bool,
+    assumed: bool,
     skeleton: &mut [u64],
     owed: &mut [u64],
 ) -> Liveness

@@ -1,5 +1,7 @@
 // The words that a line can begin with, by their numbers (crate terms, op.rt and word.rt): how many letters each has, and its letter at a place.
 // The letters come from decisions; no constant array holds a word.
+#![tactic(auto)]
+
 ghost use Rattle.std.specs.Prelude.{◌≡◌};
 ghost use Rattle.terms.specs.Ops.{var_op, in_op, out_op, not_op, next_op, always_op, eventually_op, always_for_op, within_op, and_op, or_op, implies_op, until_op};
 ghost use Rattle.terms.specs.Words.{word_rule, word_step, word_states, word_slot};

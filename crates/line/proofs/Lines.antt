@@ -1,16 +1,15 @@
 -- What a line holds, from the code's tests: one law for each return.
 use mathlib.Core.Path.{◌≡◌, refl, sym, ap, subst, ◌∙◌}
-use mathlib.Core.Bool.{Bool, true, false, ◌&&◌}
+use mathlib.Core.Bool.{Bool, true, false}
 use mathlib.Core.List.{List, [], ◌∷◌}
-use Prim.Native.Nat.{ℕ, zero, suc, ◌+◌, ◌-◌, ◌^◌, ◌≤◌, ◌<◌}
+use Prim.Native.Nat.{ℕ, zero, suc, ◌+◌, ◌-◌, ◌≤◌, ◌<◌}
 use native.Mathlib.Omega.{arith}
 use native.Mathlib.Numerals.{add-one}
 use borrow.Author.Tests.{eq-eqb, ne_eqb, lt-ltb, le-ltb, le-leb, lt-leb, ltb-true, ltb-false}
-use lib.Dec.{eqb, leb, ltb}
+use lib.Dec.{ltb}
 use lib.ListN.{length, take, drop, length-take, length-drop}
 use Rattle.terms.specs.Limits.{signals, slot_most, state_counts, steps}
 use Rattle.terms.specs.Kinds.{property_kind, assumption_kind, kinds}
-use Rattle.terms.specs.Choice.{pick}
 use Rattle.number.specs.Number.{decimal_of, hex_of}
 use Rattle.number.proofs.Numbers.{below_or}
 use Rattle.number.specs.declared.Number.{Number}

@@ -21,9 +21,7 @@ use Rattle.line.specs.Line.{Content, rule, node, step, states, slot, Line, bad, 
 use Rattle.line.specs.Line.{is_label, kind_of, rule_kind, rule_line, atom_line, bound_line, step_line, states_line, width_line, slot_line, no_field, one_field, two_fields, content, of_fields, parse}
 use Rattle.words.specs.declared.word.Word.{Word}
 use Rattle.words.specs.declared.word.Word.TheVariants as word
-use Rattle.line.specs.declared.line.Sort.{Sort}
 use Rattle.line.specs.declared.line.Sort.TheVariants as sort
-use Rattle.line.specs.declared.line.Flaw.{Flaw}
 use Rattle.line.specs.declared.line.Flaw.TheVariants as flaw
 
 pub record RuleSane (l : List ℕ) (k : ℕ) : Type 0 where

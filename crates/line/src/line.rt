@@ -12,7 +12,7 @@ use words::lookup::look_up;
 use words::word::Word;
 
 // A line's sort: where it may stand and which limits it has.
-#[derive(Drop)]
+#[derive(Clone, Copy)]
 pub enum Sort {
     Rule,
     Node,
@@ -22,14 +22,14 @@ pub enum Sort {
 }
 
 // What is wrong about a line's fields: a label or a kind, a number.
-#[derive(Drop)]
+#[derive(Clone, Copy)]
 pub enum Flaw {
     Label,
     Number,
 }
 
 // What a right line holds; a rule's label, and a slot's name, is `len` bytes from `start` of the line on.
-#[derive(Drop)]
+#[derive(Clone, Copy)]
 pub enum Content {
     Rule {
         start: usize,
@@ -55,7 +55,7 @@ pub enum Content {
 }
 
 // Bad: the word is unknown or its field count wrong.
-#[derive(Drop)]
+#[derive(Clone, Copy)]
 pub enum Line {
     Bad,
     Wrong { sort: Sort, flaw: Flaw },

@@ -18,7 +18,7 @@ use terms::limit::{
 };
 
 // How long the listing is, or the refusal.
-#[derive(Drop)]
+#[derive(Clone, Copy)]
 pub enum Listed {
     Text(usize),
     Refused(u64),

@@ -12,14 +12,14 @@ use terms::word::RULE;
 use text::write::put_byte;
 
 // The first earlier rule that is alike, if there is one.
-#[derive(Drop)]
+#[derive(Clone, Copy)]
 pub enum Alike {
     To(u64),
     Nothing,
 }
 
 // What compiling a rule gave: its first bit, its bits and its likeness, or the refusal.
-#[derive(Drop)]
+#[derive(Clone, Copy)]
 pub enum Compiling {
     Compiled { first: u64, bits: u64, alike: Alike },
     Refused(u64),

@@ -19,7 +19,7 @@ fn put_owing(
     nums: &[u64],
     first: usize,
     count: usize,
-    assumption: bool,
+    assumed: bool,
     answer: Liveness,
     owed: &[u64],
 ) -> usize
@@ -50,7 +50,7 @@ pub(crate) fn put_split(
     nums: &[u64],
     first: usize,
     count: usize,
-    assumption: bool,
+    assumed: bool,
 ) -> usize
     requires { Split ops.now nums.now first count }
     ensures { SplitWrote ops.now nums.now first count assumed (tape out.old at) (tape out.new result) }

@@ -10,7 +10,7 @@ use stepping::walk::step_node;
 use terms::limit::BOOK_ROWS;
 
 // The place behind the written lines, and their count.
-#[derive(Drop)]
+#[derive(Clone, Copy)]
 pub struct Reported {
     pub at: usize,
     pub count: u64,

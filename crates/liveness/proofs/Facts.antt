@@ -2,18 +2,17 @@
 --     none-exactly     `none` is the answer exactly for an assumption or a property without liveness
 --     within-is-calm   `within` is no liveness of its own
 --     numbered         the obligations of a skeleton are 0, 1, 2 and on, left to right
-use mathlib.Core.Path.{◌≡◌, refl, sym, ap, ap₂, subst, ◌∙◌}
+use mathlib.Core.Path.{◌≡◌, refl, sym, ap, ap₂, ◌∙◌}
 use mathlib.Core.Bool.{Bool, true, false}
 use mathlib.Core.List.{List, [], ◌∷◌, ◌++◌}
 use mathlib.Core.Logic.{◌⊎◌, inl, inr}
-use Prim.Native.Nat.{ℕ, zero, suc, ◌+◌, ◌<◌}
+use Prim.Native.Nat.{ℕ, zero, suc, ◌+◌}
 use native.Mathlib.Omega.{arith}
-use native.Mathlib.Nat.{add-zero, zero-add, suc-add, add-suc}
+use native.Mathlib.Nat.{add-zero, zero-add, suc-add}
 use lib.ListN.{length, length-append}
 use Rattle.formula.specs.Tree.{leaf, one, two, size}
 use Rattle.formula.specs.Formula.{Formula, not, next, always, eventually, always_for, within, and, or, implies, until}
-use Rattle.formula.specs.Pure.{pure}
-use Rattle.liveness.specs.Split.{live, faults, Obligation, E, Skeleton, safety, owed, Not, And, Or, Implies, skeleton_of, obligations_of, owes, Answer, none, parts, first_or, property, split_of}
+use Rattle.liveness.specs.Split.{live, faults, Obligation, Skeleton, safety, owed, Not, And, Or, Implies, skeleton_of, obligations_of, owes, none, parts, first_or, property, split_of}
 use Rattle.formula.proofs.Faults.{append_nil_inv}
 use Rattle.liveness.proofs.Words.{temporal_some}
 

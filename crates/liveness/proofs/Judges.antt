@@ -6,17 +6,17 @@ use mathlib.Core.List.{List, [], ◌∷◌, ◌++◌}
 use Prim.Native.Nat.{ℕ, ◌+◌, ◌-◌, ◌≤◌, ◌<◌}
 use native.Mathlib.Omega.{arith}
 use lib.ListN.{length, get_or}
-use Rattle.formula.specs.Tree.{leaf, one, two, one_of, two_of, size}
+use Rattle.formula.specs.Tree.{one, two, two_of, size}
 use Rattle.formula.specs.Spells.{Spells}
-use Rattle.formula.specs.Formula.{Atom, Unary, Binary, Formula, not, next, always, eventually, always_for, within, and, or, implies, until}
+use Rattle.formula.specs.Formula.{Unary, Binary, Formula, not, eventually}
 use Rattle.formula.specs.Table.{node_at, Placed}
 use Rattle.formula.specs.Pure.{pure, unless}
 use Rattle.formula.specs.Signal.{end_if, Purely}
 use Rattle.formula.specs.declared.table.Walk.{Walk}
 use Rattle.formula.specs.declared.table.Walk.TheVariants.{Upto as WalkUpto, Stuck}
-use Rattle.formula.proofs.Nodes.{number_of, unary_number, binary_number}
+use Rattle.formula.proofs.Nodes.{unary_number, binary_number}
 use Rattle.formula.proofs.Walks.{stuck_upto, upto_inj}
-use Rattle.formula.proofs.Places.{leaf_there, one_there, two_there, in_ops, placed_left, placed_right, falls_right}
+use Rattle.formula.proofs.Places.{leaf_there, one_there, two_there, placed_left, placed_right, falls_right}
 use Rattle.liveness.specs.Split.{live, unless_both, temporal, faults}
 use Rattle.liveness.specs.Judge.{Calm, Lives, top_of, Judged, Operand}
 use Rattle.liveness.specs.declared.walk.Top.{Top}

@@ -1,16 +1,14 @@
 -- What each word of a formula does to liveness and faults, by the word's number.
-use mathlib.Core.Path.{◌≡◌, refl, sym, ap, ap₂, subst, ◌∙◌}
-use mathlib.Core.Bool.{Bool, true, false, ◌&&◌, ◌||◌}
-use mathlib.Core.Bool as bool
-use mathlib.Core.List.{List, [], ◌∷◌, ◌++◌}
+use mathlib.Core.Path.{◌≡◌, refl}
+use mathlib.Core.Bool.{Bool, true, false, ◌||◌}
+use mathlib.Core.List.{List, [], ◌++◌}
 use mathlib.Core.Logic.{⊎_elim}
-use Prim.Native.Nat.{ℕ, ◌+◌, ◌*◌, ◌-◌, ◌≤◌, ◌<◌}
+use Prim.Native.Nat.{ℕ, ◌+◌, ◌≤◌, ◌<◌}
 use native.Mathlib.Omega.{arith}
-use lib.ListN.{length, get_or, length-append}
-use Rattle.formula.specs.Tree.{leaf, one, two, one_of, two_of, size}
-use Rattle.formula.specs.Formula.{Atom, Unary, Binary, Formula, not, next, always, eventually, always_for, within, and, or, implies, until}
+use lib.ListN.{get_or}
+use Rattle.formula.specs.Tree.{one, two, one_of, two_of}
+use Rattle.formula.specs.Formula.{Unary, Binary, Formula, not, next, always, eventually, always_for, within, and, or, implies, until}
 use Rattle.formula.specs.Table.{Placed}
-use Rattle.formula.specs.Pure.{pure, unless}
 use Rattle.formula.proofs.Faults.{cons_nil, unless_nil}
 use Rattle.formula.proofs.Cases.{below_or}
 use Rattle.formula.proofs.Nodes.{number_of}

@@ -43,7 +43,7 @@ pub fn contains_liveness(ops: &[u8], nums: &[u64], i: usize) -> bool
 }
 
 // Where the formula at i ends, if nothing in it refuses the split; else the first refusal of the walk.
-#[derive(Drop)]
+#[derive(Clone, Copy)]
 pub enum Top {
     Upto(usize),
     Fault(u64),

@@ -17,7 +17,7 @@ use Rattle.monitor.specs.Mon.{Signal, range_check, delayed_check, obligation, Mo
 use Rattle.meaning.specs.Alarm.{Record, during, triggers, window_end, CheckAlarm, Alarm, First}
 use Rattle.meaning.specs.Culprit.{Culprit, Report}
 use Rattle.meaning.specs.State.{ObligationState, State, culprit, initial_state, step, newly_failed, after, EachNode, IfObligation, EachObligation}
-use Rattle.meaning.specs.Calls.{Call, refused, accepted, step_all, report_of, AcceptedAt, Below, InOrder, words_of, step_count, Over, first_report}
+use Rattle.meaning.specs.Calls.{after_call, Call, refused, accepted, step_all, report_of, AcceptedAt, Below, InOrder, words_of, step_count, Over, first_report}
 use Rattle.meaning.specs.Meaning.{Sound, NodeSound, Judged}
 use Rattle.meaning.proofs.Windows.{Kept, kept_marked, kept_names}
 use Rattle.meaning.proofs.Steps.{and_left, and_right, or_left, or_right, obligation_kept, marked, reports}
@@ -83,7 +83,7 @@ in_order_split k (accepted s w ∷ cs) ds h =
 pub stepped_append : (m : Mon) (st : State m) (cs ds : List Call) → step_all m st (cs ++ ds) ≡ step_all m (step_all m st cs) ds
 unfolding step_all
 stepped_append m st [] ds = refl
-stepped_append m st (c ∷ cs) ds = stepped_append m _ cs ds
+stepped_append m st (c ∷ cs) ds = stepped_append m (after_call m st c) cs ds
 
 -- calls in order over a record's own words are its steps
 module _ (m : Mon) (rec : Record) where

@@ -1,1 +1,2 @@
 // Stepping a compiled rule's monitor over words of truths (src/codegen/monitor.rs, `ReferenceMonitor`).
+#![tactic(auto)]

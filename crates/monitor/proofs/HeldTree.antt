@@ -1,5 +1,5 @@
 -- The compiled rule that the tables hold: `compiled_of` gives a tree exactly where `HoldsTree` says so, and `is_compiled` tests that.
-use mathlib.Core.Path.{◌≡◌, refl, sym, ap, ap₂, subst, ◌∙◌}
+use mathlib.Core.Path.{◌≡◌, refl, sym, ap, ap₂, ◌∙◌}
 use mathlib.Core.Bool.{Bool, true, false, ◌&&◌}
 use mathlib.Core.List.{List, ◌∷◌}
 use mathlib.Core.Option.{Option, none, some}
@@ -12,14 +12,14 @@ use Rattle.formula.specs.Tree.{Tree, leaf, one, two, tree_of, size, depth, all}
 use Rattle.formula.specs.Spells.{run, Spells}
 use Rattle.formula.specs.Formula.{Formula}
 use Rattle.formula.specs.Table.{IsRule, is_some, keep, rule_of}
-use Rattle.formula.specs.Walk.{Stands, Walked}
+use Rattle.formula.specs.Walk.{Walked}
 use Rattle.formula.specs.declared.table.Walk.{Walk}
 use Rattle.formula.specs.declared.table.Walk.TheVariants.{Upto, Stuck}
 use Rattle.formula.proofs.Trees.{some_inj, none_some, tree_spells, spells_tree, spells_unique}
 use Rattle.formula.proofs.Walks.{both_true}
 use Rattle.formula.proofs.Rules.{keep_inv}
 use Rattle.monitor.specs.Mon.{Check, Mon}
-use Rattle.monitor.specs.Table.{Never, Join, Cell, cell_at, cell_by, cells, row_of, from_tree, limited_mon, mon_of, mon_by, compiled_of, any_check}
+use Rattle.monitor.specs.Table.{Never, Join, cell_at, cell_by, cells, row_of, from_tree, limited_mon, mon_of, mon_by, compiled_of, any_check}
 
 module _ (ops nums : List ℕ) (first count : ℕ) (nodes : List ℕ) (nfirst ncount : ℕ) where
   pub record HoldsTree (f : Formula) (t : Tree Check Never Join) : Type 0 where

@@ -19,7 +19,6 @@ use Rattle.formula.proofs.Cases.{below_or}
 use Rattle.formula.proofs.Trees.{some_inj, none_some}
 use Rattle.formula.proofs.Rules.{keep_inv}
 use Rattle.formula.proofs.Walks.{both_true}
-use Rattle.monitor.specs.declared.node.SignalExpr.{SignalExpr}
 use Rattle.monitor.specs.declared.node.SignalExpr.TheVariants.{At}
 use Rattle.monitor.specs.Mon.{Signal, at}
 use Rattle.monitor.specs.Table.{sub_at, pure_signal, signal_of}

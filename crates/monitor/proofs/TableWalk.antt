@@ -1,27 +1,25 @@
 -- One step of the walk over a node table, and what it says of the tables together.
 use mathlib.Core.Path.{◌≡◌, refl, sym, ap, ap₂, subst, ◌∙◌}
-use mathlib.Core.Bool.{Bool, true, false, ◌&&◌}
+use mathlib.Core.Bool.{Bool, true, false}
 use mathlib.Core.List.{List}
 use mathlib.Core.Option.{Option, none, some}
-use Prim.Native.Nat.{ℕ, ◌+◌, ◌-◌, ◌*◌, ◌/◌, ◌≤◌, ◌<◌}
+use Prim.Native.Nat.{ℕ, ◌+◌, ◌-◌, ◌*◌, ◌≤◌, ◌<◌}
 use native.Mathlib.Omega.{arith}
-use lib.Dec.{leb}
 use lib.ListN.{length}
-use borrow.Author.Tests.{le-leb, lt-leb, leb-true}
+use borrow.Author.Tests.{le-leb, lt-leb}
 use Rattle.terms.specs.Choice.{pick}
-use Rattle.formula.specs.Tree.{Tree, leaf, one, two, Token, leaf_of, one_of, two_of, unknown, tree_of, size, depth, all}
-use Rattle.formula.specs.Spells.{run, Spells}
+use Rattle.formula.specs.Tree.{leaf_of, one_of, two_of, unknown}
+use Rattle.formula.specs.Spells.{Spells}
 use Rattle.formula.specs.Formula.{Formula}
 use Rattle.formula.specs.Table.{node_at, Rule, IsRule, Placed, is_some, keep, rule_of}
 use Rattle.formula.specs.Pure.{pure}
 use Rattle.formula.specs.Signal.{Purely}
-use Rattle.formula.specs.Walk.{Stands, Walked}
+use Rattle.formula.specs.Walk.{Walked}
 use Rattle.formula.specs.declared.table.Walk.{Walk}
 use Rattle.formula.specs.declared.table.Walk.TheVariants.{Upto, Stuck}
-use Rattle.formula.proofs.Trees.{some_inj, none_some, tree_spells, spells_tree, spells_unique, size_pos}
 use Rattle.formula.proofs.Rules.{rule_inv}
 use Rattle.formula.proofs.Signals.{purely_yes, purely_no}
-use Rattle.formula.proofs.Walks.{walk_leaf, walk_unknown, walk_left, walk_two, both_true}
+use Rattle.formula.proofs.Walks.{walk_leaf, walk_unknown, walk_left, walk_two}
 use Rattle.monitor.specs.declared.node.SignalExpr.{SignalExpr}
 use Rattle.monitor.specs.declared.node.SignalExpr.TheVariants.{True, At}
 use Rattle.monitor.specs.declared.node.MonNode.{MonNode}
@@ -31,8 +29,8 @@ use Rattle.monitor.specs.declared.node.Row.TheVariants.{Node, Unknown}
 use Rattle.monitor.specs.declared.range.AnchorRange.{AnchorRange}
 use Rattle.monitor.specs.declared.table.Kind.{Kind}
 use Rattle.monitor.specs.declared.table.Kind.TheVariants.{Check as Check', Joined, Unknown as Unknown'}
-use Rattle.monitor.specs.Mon.{Signal, always_true, at, Check, delayed_check, obligation, Mon}
-use Rattle.monitor.specs.Table.{row_of, sub_at, pure_signal, signal_of, signal_by, Never, Join, Cell, checked, cell_of, cell_at, cell_by, cells, from_tree, limited_mon, mon_of, mon_by, compiled_of, kind_of, any_check}
+use Rattle.monitor.specs.Mon.{Signal, Check, delayed_check, obligation}
+use Rattle.monitor.specs.Table.{row_of, sub_at, pure_signal, signal_of, signal_by, Join, Cell, checked, cell_by, cells, kind_of, any_check}
 use Rattle.monitor.proofs.Parts.{FormulaPart, part_at, no_part}
 
 -- ---- signals

@@ -5,7 +5,7 @@
 --     monOf     the compiled rule that a part of the table is, if it is one within the limits of document 01
 -- That `mon_of` gives nothing is refusal 2 for a node table: a part outside the table, an unknown form, a part that is no prefix tree covering
 -- exactly its nodes, more than 256 nodes or depth 64, a signal that is no pure part of the rule's formula.
-use Rattle.std.specs.Prelude.{Bool, true, false, ◌&&◌, List, ℕ, zero, suc, ◌+◌, ◌-◌, ◌*◌, ◌<◌, ◌^◌, leb, ltb, eqb, length, get_or}
+use Rattle.std.specs.Prelude.{Bool, true, ◌&&◌, List, ℕ, zero, suc, ◌+◌, ◌-◌, ◌*◌, ◌<◌, ◌^◌, leb, ltb, eqb, length, get_or}
 use Rattle.std.proofs.Math.Option.{Option, none, some}
 use Rattle.terms.specs.Limits.{deepest, row_cells, rule_nodes}
 use Rattle.terms.specs.Choice.{pick}
@@ -15,7 +15,6 @@ use Rattle.formula.specs.Spells.{run}
 use Rattle.formula.specs.Formula.{Formula}
 use Rattle.formula.specs.Table.{keep, rule_of}
 use Rattle.formula.specs.Pure.{pure}
-use Rattle.monitor.specs.declared.range.End.{End}
 use Rattle.monitor.specs.declared.range.End.TheVariants.{Step, Open}
 use Rattle.monitor.specs.declared.range.AnchorRange.{AnchorRange}
 use Rattle.monitor.specs.declared.node.SignalExpr.{SignalExpr}

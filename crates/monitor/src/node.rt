@@ -10,14 +10,14 @@ use terms::form::{AND, DELAYED, FORMS, OBLIGATION, OR, RANGE};
 use terms::limit::ROW_CELLS;
 
 // A signal: the constant true, or the pure formula at a place of the formula table.
-#[derive(Drop)]
+#[derive(Clone, Copy)]
 pub enum SignalExpr {
     True,
     At(usize),
 }
 
 // A node without its parts. A joined node's parts stand behind it.
-#[derive(Drop)]
+#[derive(Clone, Copy)]
 pub enum MonNode {
     RangeCheck {
         expr: SignalExpr,
@@ -39,7 +39,7 @@ pub enum MonNode {
 }
 
 // What a row of a node table holds.
-#[derive(Drop)]
+#[derive(Clone, Copy)]
 pub enum Row {
     Node(MonNode),
     Unknown,

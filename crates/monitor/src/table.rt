@@ -39,7 +39,7 @@ fn is_signal(ops: &[u8], nums: &[u64], first: usize, count: usize, e: SignalExpr
 }
 
 // What kind of node stands in a row.
-#[derive(Drop)]
+#[derive(Clone, Copy)]
 pub enum Kind {
     Check,
     Joined,

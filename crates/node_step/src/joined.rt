@@ -8,7 +8,7 @@ use crate::state::{MonState, load, store};
 use monitor::node::MonNode;
 
 // How a node's parts are joined: not at all; or it fails with any of them, or with all of them.
-#[derive(Drop)]
+#[derive(Clone, Copy)]
 pub enum Parts {
     Single,
     Joined(bool),

@@ -3,7 +3,7 @@ ghost use Rattle.std.specs.Prelude.{◌≡◌, ◌+◌};
 ghost use Rattle.node_step.specs.Memory.{Memory, get, put, Inside, entries, initial_entry};
 
 // `held`: a delayed check's remembered antecedent, or that an obligation's window is pending.
-#[derive(Drop)]
+#[derive(Clone, Copy)]
 pub struct MonState {
     pub held: bool,
     pub remaining: u64,

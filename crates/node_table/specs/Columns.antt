@@ -5,7 +5,7 @@
 --     Inside     the columns are as long as their count says
 --     front      a column's first n entries in front of what stood past them
 --     Packed     the table with the nodes of the columns in front, and every node past them as before
-use Rattle.std.specs.Prelude.{Bool, true, false, List, ◌++◌, ◌≡◌, ℕ, ◌+◌, ◌≤◌, ◌<◌, leb, ltb, length, get_or, take, drop}
+use Rattle.std.specs.Prelude.{List, ◌++◌, ◌≡◌, ℕ, ◌+◌, ◌≤◌, ◌<◌, leb, ltb, length, get_or, take, drop}
 use Rattle.terms.specs.Choice.{pick}
 use Rattle.terms.specs.Limits.{book_nodes}
 use Rattle.node_table.specs.Node.{ops_of, nums_of}

@@ -1,6 +1,8 @@
 // A formula table as a lent slice of node structs: `node_at` reads one node and `put_node` stores one, and nothing else touches a node. A rule's own
 // places are read into plain columns, and columns are stored in front of a table. The borrow checker covers no function that is lent such a slice, so
 // each is proved by hand. The entry points over such a table (crates `table_calls`, `table_read`, `table_step`) hand plain columns on to the core.
+#![tactic(auto)]
+
 ghost use Rattle.std.specs.Prelude.{◌≡◌, ◌+◌, ◌≤◌, ◌<◌, length, set};
 ghost use Rattle.node_table.specs.Node.{struct_at};
 ghost use Rattle.node_table.specs.Columns.{capped, end_of, Unpacked, Inside, Packed};
@@ -8,7 +10,7 @@ ghost use Rattle.node_table.specs.Columns.{capped, end_of, Unpacked, Inside, Pac
 use terms::limit::BOOK_NODES;
 
 // A node of a formula table: its operation and its number.
-#[derive(Drop)]
+#[derive(Clone, Copy)]
 pub struct FormulaNode {
     pub op: u8,
     pub num: u64,
@@ -23,7 +25,7 @@ pub(crate) fn node_at(table: &[FormulaNode], i: usize) -> FormulaNode
 }
 
 // A table in two columns: how many nodes there are, and the operations and numbers of those that were read or are to be stored.
-#[derive(Drop)]
+#[derive(Clone, Copy)]
 pub struct Columns {
     pub count: usize,
     pub ops: [u8; BOOK_NODES],

@@ -1,9 +1,11 @@
 // The numbers of a book: decimal below 2^64 without leading zeros, and 16 lowercase hexadecimal digits.
+#![tactic(auto)]
+
 ghost use Rattle.std.specs.Prelude.{◌≡◌, ◌≤◌, ◌<◌};
 ghost use Rattle.number.specs.Number.{Digit, plain, value_in, decimal_of, hex_of};
 
 // A number's value, or that the bytes are none that fits.
-#[derive(Drop)]
+#[derive(Clone, Copy)]
 pub enum Number {
     Value(u64),
     Wrong,

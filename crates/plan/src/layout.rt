@@ -11,7 +11,7 @@ use terms::kind::PROPERTY;
 use terms::limit::ROW_CELLS;
 
 // The bits of one node: of the pending flag, of the remaining count, of the remembered antecedent.
-#[derive(Drop)]
+#[derive(Clone, Copy)]
 pub struct Piece {
     pub pending: u64,
     pub remaining: u64,
@@ -19,7 +19,7 @@ pub struct Piece {
 }
 
 // A node's bits, and where they begin, counted from the rule's first bit.
-#[derive(Drop)]
+#[derive(Clone, Copy)]
 pub struct Slot {
     pub offset: u64,
     pub piece: Piece,

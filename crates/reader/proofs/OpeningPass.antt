@@ -47,15 +47,15 @@ module _ (line : List ℕ) (l : code.Line) (is : LineIs line l) where
     only : (u : SlotTables) (k : ℕ) (u' : SlotTables) (k' : ℕ) → SlotLeftBy (held line x) u k u' k' → SlotLinePut line u k u' k'
     only u k u' k' p = record { left = λ c q. subst (λ (y : Content). SlotLeftBy y u k u' k') (right_is (sym slot_held ∙ q)) p }
 
-    pub slot_other : (u : SlotTables) (k : ℕ) → OneOf (0 ∷ 1 ∷ 2 ∷ 3 ∷ []) (tag_of content-type.the_type x) → SlotLinePut line u k u k
+    pub slot_other : (u : SlotTables) (k : ℕ) → ((a b d : ℕ) → x ≡ contents.Slot a b d → ⊥) → SlotLinePut line u k u k
     slot_other u k h = only u k u k (go x h)
       where
-        go : (m : held-type.Content) → OneOf (0 ∷ 1 ∷ 2 ∷ 3 ∷ []) (tag_of content-type.the_type m) → SlotLeftBy (held line m) u k u k
+        go : (m : held-type.Content) → ((a b d : ℕ) → m ≡ contents.Slot a b d → ⊥) → SlotLeftBy (held line m) u k u k
         go (contents.Rule a b c) h = record { tables = refl; count = refl }
         go (contents.Node a b) h = record { tables = refl; count = refl }
         go (contents.Step a b) h = record { tables = refl; count = refl }
         go (contents.States a) h = record { tables = refl; count = refl }
-        go (contents.Slot a b c) h = absurd (miss (0 ∷ 1 ∷ 2 ∷ 3 ∷ []) 4 tt h)
+        go (contents.Slot a b c) h = absurd (h a b c refl)
 
     module _ (start len width : ℕ) (p : x ≡ contents.Slot start len width) where
       slot_in_lem : start + len ≤ length line

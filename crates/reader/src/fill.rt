@@ -8,7 +8,7 @@ use line::text::{find, past, upto};
 use terms::limit::LABEL_BYTES;
 
 // The rules begun, the nodes written, and the nodes of the rule in hand.
-#[derive(Drop)]
+#[derive(Clone, Copy)]
 pub struct Tally {
     pub rules: usize,
     pub nodes: usize,

@@ -1,4 +1,6 @@
 // Reading a book into lent tables, and its steps one by one.
+#![tactic(auto)]
+
 pub mod fill;
 pub mod read;
 pub mod slots;

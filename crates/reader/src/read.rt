@@ -9,7 +9,7 @@ use book::state::States;
 use terms::limit::{BOOK_NODES, BOOK_RULES, BOOK_SLOTS, LABELS_ROOM, NAMES_ROOM};
 
 // What the book holds, where its step lines begin, and its opening lines; or document 01's number and line.
-#[derive(Drop)]
+#[derive(Clone, Copy)]
 pub enum Answer {
     Read {
         rules: usize,

@@ -7,7 +7,7 @@ use line::line::{Content, Line, read_line};
 use line::text::{find, past, upto};
 
 // A step and the place behind its line, or the end.
-#[derive(Drop)]
+#[derive(Clone, Copy)]
 pub enum StepRead {
     Step { step: u64, truths: u64, next: usize },
     End,

@@ -11,7 +11,7 @@ use stepping::call::{Verdict, step_fit};
 use terms::limit::STEPS;
 
 // No word was reported; or the step of the first that was; or the refusal of the whole run.
-#[derive(Drop)]
+#[derive(Clone, Copy)]
 pub enum RunVerdict {
     Quiet,
     Reported(u64),

@@ -11,7 +11,7 @@ use lent::refusal::refusal_of;
 use plan::layout::rule_bits;
 
 // The count of the bytes that hold the state; or the refusal.
-#[derive(Drop)]
+#[derive(Clone, Copy)]
 pub enum Saved {
     Bytes(usize),
     Refused(u64),

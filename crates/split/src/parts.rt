@@ -10,7 +10,7 @@ use terms::limit::{OWED_ROOM, SKELETON_ROOM};
 use terms::op::{AND, NEXT, NOT, UNTIL};
 
 // The answer for a rule: no split is asked for, a split with so many entries and obligations, or a refusal's number.
-#[derive(Drop)]
+#[derive(Clone, Copy)]
 pub enum Liveness {
     None,
     Parts { skeleton: usize, owed: usize },
@@ -55,7 +55,7 @@ fn wide(x: u8) -> u64
 }
 
 // What decomposing leaves: where the formula ends, the next entry, the next obligation.
-#[derive(Drop)]
+#[derive(Clone, Copy)]
 pub struct Filled {
     pub end: usize,
     pub entries: usize,
@@ -120,7 +120,7 @@ pub fn split(
     nums: &[u64],
     first: usize,
     count: usize,
-    assumption: bool,
+    assumed: bool,
     skeleton: &mut [u64],
     owed: &mut [u64],
 ) -> Liveness

@@ -10,7 +10,7 @@ use lent::refusal::refusal_of;
 use terms::limit::STEPS;
 
 // Whether a call was taken, and if so whether the rule is newly broken by it; or the refusal.
-#[derive(Drop)]
+#[derive(Clone, Copy)]
 pub enum Verdict {
     Accepted(bool),
     Refused(u64),

@@ -12,7 +12,7 @@ use node_step::state::{initial_state, store};
 use terms::limit::ROW_CELLS;
 
 // The monitor was made for so many nodes; or the refusal.
-#[derive(Drop)]
+#[derive(Clone, Copy)]
 pub enum Outcome {
     Made(usize),
     Refused(u64),

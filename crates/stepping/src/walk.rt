@@ -8,7 +8,7 @@ use node_step::check::step_check;
 use node_step::joined::{Parts, finish, joined_now, parts_of};
 
 // Whether a node is failing now, and the node behind its parts.
-#[derive(Drop)]
+#[derive(Clone, Copy)]
 pub struct NodeOut {
     pub now: bool,
     pub next: usize,

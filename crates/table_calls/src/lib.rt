@@ -1,5 +1,7 @@
 // Compiling and splitting a rule of a formula table that is lent as a slice of node structs. Each entry point reads the rule's own places into
 // columns and hands them on to the core, `compile_formula` or `split`, which callers with plain slices call themselves.
+#![tactic(auto)]
+
 ghost use Rattle.std.specs.Prelude.{◌≡◌, take};
 ghost use Rattle.compiler.specs.Compiled.{Answers, compile_call};
 ghost use Rattle.node_table.specs.Columns.{Inside};
@@ -33,7 +35,7 @@ fn split_columns(
     c: Columns,
     first: usize,
     count: usize,
-    assumption: bool,
+    assumed: bool,
     skeleton: &mut [u64],
     owed: &mut [u64],
 ) -> Liveness
@@ -44,15 +46,7 @@ fn split_columns(
     let n = c.count;
     let ops = c.ops;
     let nums = c.nums;
-    split(
-        &ops[..n],
-        &nums[..n],
-        first,
-        count,
-        assumed,
-        skeleton,
-        owed,
-    )
+    split(&ops[..n], &nums[..n], first, count, assumed, skeleton, owed)
 }
 
 // The liveness split of the rule of `count` nodes at `first`.
@@ -60,7 +54,7 @@ pub fn split_table(
     table: &[FormulaNode],
     first: usize,
     count: usize,
-    assumption: bool,
+    assumed: bool,
     skeleton: &mut [u64],
     owed: &mut [u64],
 ) -> Liveness

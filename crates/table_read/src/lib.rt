@@ -1,5 +1,7 @@
 // Reading a book into a formula table that is lent as a slice of node structs. The book is read by the core, `reader::read::read_book`, into
 // columns, and the nodes are stored in the table one by one. Callers with plain slices call `read_book` themselves.
+#![tactic(auto)]
+
 ghost use Rattle.std.specs.Prelude.{◌≡◌};
 ghost use Rattle.node_table.specs.Node.{ops_of, nums_of};
 ghost use Rattle.reader.specs.Answer.{Reads};

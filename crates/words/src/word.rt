@@ -1,7 +1,7 @@
 // The words that a line can begin with.
 
 // A word's sort, with its number in a formula table where it is a node's.
-#[derive(Drop)]
+#[derive(Clone, Copy)]
 pub enum Word {
     Atom(u8),
     Plain(u8),

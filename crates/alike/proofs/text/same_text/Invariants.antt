@@ -1,0 +1,12 @@
+use Rattle.alike.specs.Signs.{rest}
+use Rattle.alike.specs.Text.{agree}
+use lib.ListN.{length}
+use mathlib.Core.Path.{◌≡◌}
+use Rattle.alike.proofs.text.same_text.Given as goal
+
+abbrev pub invariant-loop-s : goal.invariant-loop-s
+invariant-loop-s l =
+    agree (rest l.ops l.nums l.c l.m) (rest l.ops l.nums l.d l.n) ≡ agree (rest l.ops l.nums l.initial.c l.m) (rest l.ops l.nums l.initial.d l.n)
+
+abbrev pub decreases-loop-s : goal.decreases-loop-s
+decreases-loop-s l = length (rest l.ops l.nums l.c l.m)

@@ -1,0 +1,56 @@
+use Rattle.liveness.proofs.Judges.{judged_leaf, judged_not, judged_eventually, judged_live, judged_calm, judged_left, judged_two, judged_behind, judged_falls, until_left, until_two, until_behind}
+use Rattle.liveness.proofs.Words.{placed_next}
+use Rattle.formula.proofs.Places.{in_ops, falls_next}
+use borrow.Author.Rules.{rules}
+use Rattle.liveness.proofs.walk.+judge_top.Goals as goal
+
+pub bounds-ops-i : goal.bounds-ops-i
+bounds-ops-i t c = search (rules, in_ops)
+
+pub returns-then-op-lt-NOT : goal.returns-then-op-lt-NOT
+returns-then-op-lt-NOT t c = search (rules, judged_leaf)
+
+pub judge_top-requires : goal.judge_top-requires
+judge_top-requires t c = (search (rules, falls_next), search (rules, placed_next))
+
+pub returns-then-op-lt-NEXT : goal.returns-then-op-lt-NEXT
+returns-then-op-lt-NEXT t c = search (rules, judged_not)
+
+pub operand_at-requires : goal.operand_at-requires
+operand_at-requires t c = search (rules, placed_next)
+
+pub returns-then-op-eq-EVENTUALLY : goal.returns-then-op-eq-EVENTUALLY
+returns-then-op-eq-EVENTUALLY t c = search (rules, judged_eventually)
+
+pub contains_liveness-requires : goal.contains_liveness-requires
+contains_liveness-requires t c = search (rules, placed_next)
+
+pub returns-then-contains_liveness : goal.returns-then-contains_liveness
+returns-then-contains_liveness t c = search (rules, judged_live)
+
+pub returns-then-op-lt-AND : goal.returns-then-op-lt-AND
+returns-then-op-lt-AND t c = search (rules, judged_calm)
+
+pub judge_top-left-requires : goal.judge_top-left-requires
+judge_top-left-requires t c = (search (rules, falls_next), search (rules, placed_next))
+
+pub returns-in_default : goal.returns-in_default
+returns-in_default t c = search (rules, judged_left)
+
+pub judge_top-requires-then-op-lt-UNTIL : goal.judge_top-requires-then-op-lt-UNTIL
+judge_top-requires-then-op-lt-UNTIL t c = (search (rules, judged_falls), search (rules, judged_behind))
+
+pub returns-then-op-lt-UNTIL : goal.returns-then-op-lt-UNTIL
+returns-then-op-lt-UNTIL t c = search (rules, judged_two)
+
+pub operand_at-first-requires : goal.operand_at-first-requires
+operand_at-first-requires t c = search (rules, placed_next)
+
+pub returns-in_default-first : goal.returns-in_default-first
+returns-in_default-first t c = search (rules, until_left)
+
+pub operand_at-requires-2 : goal.operand_at-requires-2
+operand_at-requires-2 t c = search (rules, until_behind)
+
+pub returns : goal.returns
+returns t c = search (rules, until_two)

@@ -1,0 +1,24 @@
+use Rattle.reader.proofs.OpeningPass.{slot_none, slot_other, slot_start, slot_len, slot_room, slot_fits, slot_put}
+use borrow.Author.Rules.{rules}
+use Rattle.reader.proofs.slots.put_opening.Goals as goal
+
+pub returns-in_default : goal.returns-in_default
+returns-in_default c = search (rules, slot_none)
+
+pub returns-in_default-c : goal.returns-in_default-c
+returns-in_default-c c = slot_other _ _ c.read_line-l.ensures _ c.in-Right.is _ _ c.in_default-c.not-Slot
+
+pub past-rest-requires : goal.past-rest-requires
+past-rest-requires c = search (rules, slot_start)
+
+pub upto-name-requires : goal.upto-name-requires
+upto-name-requires c = search (rules, slot_len)
+
+pub put_slot-requires : goal.put_slot-requires
+put_slot-requires c = search (rules, slot_room)
+
+pub overflow_add-result : goal.overflow_add-result
+overflow_add-result c = search (rules, slot_fits)
+
+pub returns : goal.returns
+returns c = search (rules, slot_put)

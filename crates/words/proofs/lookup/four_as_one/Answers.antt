@@ -1,0 +1,7 @@
+use Rattle.words.specs.Coded.{Bytes}
+use borrow.Author.Rules.{rules}
+use Rattle.words.proofs.lookup.four_as_one.Goals as goal
+
+pub returns : goal.returns
+unfolding Bytes
+returns c = search rules
