@@ -1,4 +1,6 @@
 // A monitor in one struct, lent by `&mut`: made and stepped in place.
+#![tactic(auto)]
+
 pub mod fresh;
 pub mod step;
 

@@ -1,5 +1,7 @@
 // The calls over a lent table of node structs and a lent monitor, for callers that hold both by value: each copies them to locals, lends the locals
 // for one call, and hands the monitor back. The borrow checker covers such callers, and none that lends a struct itself.
+#![tactic(auto)]
+
 ghost use Rattle.std.specs.Prelude.{◌≡◌};
 ghost use Rattle.compiler.specs.Compiled.{Answers, compile_call};
 ghost use Rattle.in_place.specs.InPlace.{fresh_in, step_in};

@@ -1,5 +1,7 @@
 // Reading a book over a lent table of node structs, for callers that hold the table by value: the table is copied to a local, the local is lent
 // for the call of `read_table`, and it is handed back.
+#![tactic(auto)]
+
 ghost use Rattle.node_table.specs.Node.{ops_of, nums_of};
 ghost use Rattle.reader.specs.Answer.{Reads};
 ghost use Rattle.reader.specs.BookTables.{columns, slot_columns};

@@ -7,7 +7,7 @@ use formula::table::is_roomy;
 use terms::limit::{NODE_CELLS, RULE_NODES};
 
 // Whether the lent entries have room for 256 nodes.
-fn has_room_lem(held: &[bool], remaining: &[u64], failed: &[bool], culprits: &[i64]) -> bool
+fn has_room(held: &[bool], remaining: &[u64], failed: &[bool], culprits: &[i64]) -> bool
     ensures { result ≡ has_room (entries held.now remaining.now failed.now culprits.now) }
 {
     if held.len() < RULE_NODES {
@@ -50,7 +50,7 @@ pub fn is_lent(
         if bounds.len() < RULE_NODES {
             return false;
         }
-        return has_room_lem(held, remaining, failed, culprits);
+        return has_room(held, remaining, failed, culprits);
     }
     false
 }

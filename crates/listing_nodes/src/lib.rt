@@ -1,4 +1,6 @@
 // The `node` lines of a compiled rule.
+#![tactic(auto)]
+
 ghost use Rattle.text.specs.Tape.{tape};
 ghost use Rattle.listing_nodes.specs.Rows.{Compiled, NodesWrote};
 

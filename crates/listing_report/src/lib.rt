@@ -1,4 +1,6 @@
 // The `report`, `end` and `refused` lines of a listing.
+#![tactic(auto)]
+
 ghost use Rattle.std.specs.Prelude.{[], ◌∷◌};
 ghost use Rattle.number.specs.Digits.{decimal};
 ghost use Rattle.text.specs.Tape.{tape, Wrote, Culprit};

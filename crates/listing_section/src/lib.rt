@@ -1,2 +1,4 @@
 // The lines of one rule of a listing.
+#![tactic(auto)]
+
 pub mod section;

@@ -57,19 +57,9 @@ pub(crate) fn put_split(
 {
     let mut skeleton: [u64; SKELETON_ROOM] = [0; SKELETON_ROOM];
     let mut owed: [u64; OWED_ROOM] = [0; OWED_ROOM];
-    let answer = split(
-        ops,
-        nums,
-        first,
-        count,
-        assumed,
-        &mut skeleton,
-        &mut owed,
-    );
+    let answer = split(ops, nums, first, count, assumed, &mut skeleton, &mut owed);
     let place = put_live(out, at, ops, nums, answer, &skeleton);
-    put_owing(
-        out, place, ops, nums, first, count, assumed, answer, &owed,
-    )
+    put_owing(out, place, ops, nums, first, count, assumed, answer, &owed)
 }
 
 // The `node` lines, where the rule compiles.

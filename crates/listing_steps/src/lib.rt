@@ -1,4 +1,6 @@
 // The step lines of a book: each rule that compiles is stepped once for each line, and its first alarm is reported.
+#![tactic(auto)]
+
 ghost use Rattle.stepping.specs.Walk.{Walkable};
 ghost use Rattle.text.specs.Tape.{tape};
 ghost use Rattle.listing_steps.specs.Stepped.{RuleStepped, Due, OneStepped, LineDue, LineStepped, LinesDue, LinesStepped, StepsDue, StepsReported};

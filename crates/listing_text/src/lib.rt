@@ -1,1 +1,2 @@
 // The listing of a book, as text: definitions only.
+#![tactic(auto)]

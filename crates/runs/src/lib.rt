@@ -1,4 +1,6 @@
 // Many words in one call: what is lent is tested once, then the monitor is stepped in place for each word.
+#![tactic(auto)]
+
 ghost use Rattle.std.specs.Prelude.{◌≡◌};
 ghost use Rattle.node_step.specs.Memory.{entries};
 ghost use Rattle.lent.specs.Lent.{monitor_of, tables};

@@ -1,3 +1,2 @@
 -- Laws of saving and restoring a monitor struct.
 pub mod Answering
-pub mod Behind

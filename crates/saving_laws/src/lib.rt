@@ -1,1 +1,2 @@
 // A monitor that was saved and restored: definitions and theorems, no code.
+#![tactic(auto)]

@@ -1,5 +1,7 @@
 // Making and stepping a lent monitor over a formula table that is lent as a slice of node structs. The rule's own places are read into columns, and
 // these and the lent monitor are handed on to `in_place::fresh::fresh` or `in_place::step::step`. Callers with plain slices call those themselves.
+#![tactic(auto)]
+
 ghost use Rattle.std.specs.Prelude.{◌≡◌};
 ghost use Rattle.in_place.specs.InPlace.{fresh_in, step_in};
 ghost use Rattle.table_step.specs.Over.{tables_over};

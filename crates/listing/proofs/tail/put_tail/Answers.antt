@@ -1,0 +1,10 @@
+use Rattle.listing.proofs.Wholes.{steps_due, tail_listed}
+use borrow.Author.Rules.{rules}
+use borrow.Author.Rules.{rules}
+use Rattle.listing.proofs.tail.put_tail.Goals as goal
+
+pub report_steps-told-requires : goal.report_steps-told-requires
+report_steps-told-requires c = search (rules, steps_due)
+
+pub returns : goal.returns
+returns c = search (rules, tail_listed)

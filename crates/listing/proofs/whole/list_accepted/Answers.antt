@@ -1,0 +1,18 @@
+use Rattle.listing.proofs.Wholes.{known, base_low, encodable, compiled, book_listed}
+use borrow.Author.Rules.{rules}
+use Rattle.listing.proofs.whole.list_accepted.Goals as goal
+
+pub put_head-place-requires : goal.put_head-place-requires
+put_head-place-requires c = (known _ _ _ _ _ _ _ _ _ _ _ _ c.requires, (search rules, base_low _ _ _ _ _ _ _ _ _ _ _ _ c.requires))
+
+pub encode_rules-encoding-requires : goal.encode_rules-encoding-requires
+encode_rules-encoding-requires c = search (rules, encodable, c.put_head-place.ensures, c.requires)
+
+pub put_tail-requires : goal.put_tail-requires
+put_tail-requires c = search (rules, compiled, c.put_head-place.ensures, c.requires)
+
+pub shape_of-out : goal.shape_of-out
+shape_of-out c = search (rules, c.put_head-place.auto, c.put_plan-behind.auto, c.put_tail.auto)
+
+pub returns : goal.returns
+returns c = search (rules, book_listed, c.put_head-place.ensures, c.encode_rules-encoding.ensures, c.put_plan-behind.ensures, c.put_tail.ensures, c.requires)

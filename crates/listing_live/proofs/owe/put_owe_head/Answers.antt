@@ -1,0 +1,6 @@
+use Rattle.listing_line.proofs.Fields.{tab_letter}
+use borrow.Author.Rules.{rules}
+use Rattle.listing_live.proofs.owe.put_owe_head.Goals as goal
+
+pub returns : goal.returns
+returns c = search (rules, tab_letter)

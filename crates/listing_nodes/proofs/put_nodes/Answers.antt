@@ -1,0 +1,29 @@
+use native.Mathlib.Omega.{arith}
+use Rattle.listing_nodes.proofs.Cells.{noded_first, noded_next, noded_unknown, noded_all, row_inside, noded_ready}
+use mathlib.Core.Path.{◌∙◌}
+use borrow.Author.Rules.{rules}
+use Rattle.listing_nodes.proofs.put_nodes.Goals as goal
+
+pub loop-k-init : goal.loop-k-init
+loop-k-init c = search (rules, noded_first)
+
+pub overflow_add-nfirst : goal.overflow_add-nfirst
+overflow_add-nfirst c =
+    let x = row_inside c.args.ops.now c.args.nums.now c.args.nodes.now c.args.nfirst c.args.ncount c.loop-k.k c.requires c.loop-k-test.true in
+    omega (arith, x)
+
+pub row_at-row-requires : goal.row_at-row-requires
+row_at-row-requires c = search (rules, row_inside)
+
+pub returns-in_default : goal.returns-in_default
+returns-in_default c = search (rules, noded_unknown)
+
+pub put_node-place-requires : goal.put_node-place-requires
+put_node-place-requires c = search (rules, noded_ready)
+
+pub loop-k-preserved : goal.loop-k-preserved
+loop-k-preserved c =
+    (search (rules, noded_next), c.put_node-place.auto.out ∙ c.loop-k.invariant.1)
+
+pub returns : goal.returns
+returns c = search (rules, noded_all)

@@ -1,0 +1,12 @@
+use Rattle.listing_section.proofs.Sections.{nodes_ready, nodes_wrote, nodes_none}
+use borrow.Author.Rules.{rules}
+use Rattle.listing_section.proofs.section.put_compiled.Goals as goal
+
+pub put_nodes-requires : goal.put_nodes-requires
+put_nodes-requires c = search (rules, nodes_ready)
+
+pub returns-in-Compiled : goal.returns-in-Compiled
+returns-in-Compiled c = search (rules, nodes_wrote)
+
+pub returns-in-Refused : goal.returns-in-Refused
+returns-in-Refused c = search (rules, nodes_none)

@@ -1,0 +1,22 @@
+use native.Mathlib.Omega.{arith}
+use borrow.Author.Rules.{rules}
+use Rattle.listing_steps.proofs.Lines.{upto_first, upto_due, upto_next, upto_all}
+use Rattle.listing_steps.proofs.step_rules.Goals as goal
+
+pub loop-r-init : goal.loop-r-init
+loop-r-init c = search (rules, upto_first)
+
+pub report_rule-p-requires : goal.report_rule-p-requires
+report_rule-p-requires c = search (rules, upto_due)
+
+pub overflow_add-count : goal.overflow_add-count
+overflow_add-count c = omega (arith, c.report_rule-p.ensures.few, c.loop-r.invariant.0.few, c.loop-r.invariant.0.high, c.requires.rows.few)
+
+pub overflow_add-r : goal.overflow_add-r
+overflow_add-r c = omega (arith, c.loop-r.invariant.0.high, c.requires.rows.few)
+
+pub loop-r-preserved : goal.loop-r-preserved
+loop-r-preserved c = (search (rules, upto_next), omega (arith, c.report_rule-p.auto, c.loop-r.invariant.1))
+
+pub returns : goal.returns
+returns c = search (rules, upto_all)
