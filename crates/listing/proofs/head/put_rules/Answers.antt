@@ -18,7 +18,7 @@ overflow_add-r c = omega (arith, c.loop-r-test.true, c.requires.is.holds.held.fe
 
 pub loop-r-preserved : goal.loop-r-preserved
 loop-r-preserved c =
-    (headed_next _ _ _ _ _ _ _ _ _ _ _ _ _ _ _ _ _ _ _ c.loop-r.invariant.0 c.loop-r-test.true c.compiling_at-c.ensures c.put_rule_at-place.ensures, c.put_rule_at-place.auto.0 ∙ c.loop-r.invariant.1)
+    (headed_next _ _ _ _ _ _ _ _ _ _ _ _ _ _ _ _ _ _ _ c.loop-r.invariant.0 c.loop-r-test.true c.compiling_at-c.ensures c.put_rule_at-place.ensures, c.put_rule_at-place.auto.out ∙ c.loop-r.invariant.1)
 
 pub returns : goal.returns
 returns c = search (rules, headed_all)
