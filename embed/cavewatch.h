@@ -1,6 +1,6 @@
 /* cavewatch.h: the calls of the static library libcavewatch_c.a, for C and C++.
  *
- * Made by `rt staticlib cavewatch_c` for x86-64 Linux. Each call is proved to answer and to leave in lent memory what its contract says, for
+ * Made by `rt lib` in crates/cavewatch_c for x86-64 Linux. Each call is proved to answer and to leave in lent memory what its contract says, for
  * every input (crates/cavewatch_c). It keeps nothing between calls, allocates nothing, and may be called from several threads over separate
  * memory. It needs 256 KB of stack. What is stated here of C (types, pointers, overlap) is the caller's part: nothing proves it.
  *
