@@ -1,28 +1,27 @@
 -- The cells of two compiled rules agree one for one exactly where the rules are alike.
 use mathlib.Core.Path.{◌≡◌, refl, sym, ap, ap₂, subst, ◌∙◌}
 use mathlib.Core.Bool.{Bool, true, false, ◌&&◌}
-use mathlib.Core.List.{List, [], ◌∷◌, ◌++◌, append_assoc, append-nil}
+use mathlib.Core.List.{List, ◌∷◌, ◌++◌, append_assoc, append-nil}
 use mathlib.Core.Option.{Option, none, some}
-use Prim.Native.Nat.{ℕ, zero, suc, ◌+◌, ◌-◌, ◌≤◌, ◌<◌}
+use Prim.Native.Nat.{ℕ, suc, ◌+◌, ◌-◌}
 use native.Mathlib.Omega.{arith}
 use lib.ListN.{length}
-use Rattle.formula.specs.Tree.{Tree, leaf, one, two, Token, leaf_of, one_of, two_of, unknown, size, prefix}
+use Rattle.formula.specs.Tree.{Tree, leaf, one, two, leaf_of, unknown, prefix}
 use Rattle.formula.specs.Formula.{Formula}
 use Rattle.formula.specs.Table.{Rule}
 use Rattle.formula.proofs.Trees.{some_inj}
 use Rattle.monitor.specs.declared.node.SignalExpr.{SignalExpr}
 use Rattle.monitor.specs.declared.node.SignalExpr.TheVariants.{True, At}
-use Rattle.monitor.specs.declared.node.MonNode.{MonNode}
 use Rattle.monitor.specs.declared.node.MonNode.TheVariants.{RangeCheck, DelayedCheck, Obligation, And as AndNode, Or as OrNode}
 use Rattle.monitor.specs.declared.node.Row.{Row}
 use Rattle.monitor.specs.declared.node.Row.TheVariants.{Node, Unknown}
 use Rattle.monitor.specs.declared.range.AnchorRange.{AnchorRange}
-use Rattle.monitor.specs.Mon.{Signal, always_true, at, Check, range_check, delayed_check, obligation, Mon, expr_of}
+use Rattle.monitor.specs.Mon.{Signal, Check, range_check, delayed_check, obligation}
 use Rattle.monitor.specs.Table.{Never, Join, join_and, join_or, Cell, signal_of, checked, cell_of, from_tree}
 use Rattle.monitor.proofs.Signals.{signal_inv}
 use Rattle.alike.specs.Alike.{alike_mon}
-use Rattle.alike.specs.Signs.{Sound, Spelt, Means}
-use Rattle.alike.specs.Rows.{alike_join, alike_cell, alike_cells, row_for, SoundCell, Shows}
+use Rattle.alike.specs.Signs.{Means}
+use Rattle.alike.specs.Rows.{alike_cell, alike_cells, Shows}
 
 -- ---- trees
 and_assoc : (a b c : Bool) → (a && (b && c)) ≡ ((a && b) && c)

@@ -1,7 +1,7 @@
 -- The comparison of two ranges and of two nodes.
 use mathlib.Core.Path.{◌≡◌, refl, sym, ap, ap₂, subst, ◌∙◌}
 use mathlib.Core.Bool.{Bool, true, false, ◌&&◌}
-use mathlib.Core.List.{List, [], ◌∷◌}
+use mathlib.Core.List.{List, ◌∷◌}
 use Prim.Native.Nat.{ℕ}
 use native.Mathlib.Omega.{arith}
 use lib.Dec.{eqb}
@@ -22,7 +22,7 @@ use Rattle.monitor.specs.Mon.{Signal, Check, range_check, delayed_check, obligat
 use Rattle.monitor.specs.Table.{Cell, Join, join_and, join_or, row_of}
 use Rattle.alike.specs.Alike.{alike_signal, alike_end, alike_range, alike_check}
 use Rattle.alike.specs.Signs.{Means, IsMeant, Likened}
-use Rattle.alike.specs.Rows.{alike_join, alike_cell, join_row, row_for, Shows, IsShown, SameRow}
+use Rattle.alike.specs.Rows.{alike_join, alike_cell, join_row, Shows, IsShown, SameRow}
 
 -- ---- ranges
 module _ (a b : AnchorRange) where

@@ -1,21 +1,20 @@
 -- The signs read off the table are the signal's text, and the comparison of two signals.
 use mathlib.Core.Path.{◌≡◌, refl, sym, ap, ap₂, subst, ◌∙◌}
-use mathlib.Core.Bool.{Bool, true, false, ◌&&◌}
-use mathlib.Core.List.{List, [], ◌∷◌, ◌++◌, append_assoc}
+use mathlib.Core.Bool.{Bool, true, false}
+use mathlib.Core.List.{List, ◌∷◌, ◌++◌, append_assoc}
 use Prim.Native.Nat.{ℕ, zero, suc, ◌+◌, ◌-◌, ◌≤◌, ◌<◌}
 use native.Mathlib.Omega.{arith}
-use native.Mathlib.Numerals.{add-one, one-add}
+use native.Mathlib.Numerals.{one-add}
 use native.Mathlib.Nat.{suc-add, zero-add, add_assoc, add-zero}
 use lib.ListN.{length, get_or}
 use borrow.Author.Tests.{lt-ltb}
-use lib.Dec.{ltb}
-use Rattle.formula.specs.Tree.{leaf, one, two, leaf_of, one_of, two_of, size}
+use Rattle.formula.specs.Tree.{leaf, one, two, leaf_of, size}
 use Rattle.formula.specs.Spells.{Spells}
 use Rattle.formula.specs.Formula.{Atom, Formula, node, var, input, output, not, next, always, eventually, always_for, within, and, or, implies, until}
 use Rattle.formula.specs.Table.{node_at, Placed}
 use Rattle.formula.specs.Pure.{pure}
 use Rattle.formula.specs.Signal.{Purely}
-use Rattle.formula.specs.Text.{Sign, atom, sign, signs_by, signs}
+use Rattle.formula.specs.Text.{Sign, sign, signs_by, signs}
 use Rattle.formula.specs.declared.table.Walk.{Walk}
 use Rattle.formula.specs.declared.table.Walk.TheVariants.{Upto, Stuck}
 use Rattle.formula.proofs.Cases.{true_false}
@@ -24,8 +23,7 @@ use Rattle.formula.proofs.Walks.{both_true}
 use Rattle.formula.proofs.Signals.{purely_yes, purely_no}
 use Rattle.monitor.specs.declared.node.SignalExpr.{SignalExpr}
 use Rattle.monitor.specs.declared.node.SignalExpr.TheVariants.{True, At}
-use Rattle.monitor.specs.Mon.{Signal, always_true, at, expr_of}
-use Rattle.alike.specs.declared.text.Cursor.{Cursor}
+use Rattle.monitor.specs.Mon.{Signal, always_true, at}
 use Rattle.alike.specs.Text.{agree}
 use Rattle.alike.specs.Alike.{alike_signal}
 use Rattle.alike.specs.Signs.{atom_of, signs_at, signs_from, rest, Spelt, IsSpelt, LikenedAt, Means, IsMeant, Likened}

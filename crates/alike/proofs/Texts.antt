@@ -1,15 +1,15 @@
 -- One step of the walk over two texts.
 use mathlib.Core.Path.{◌≡◌, refl, sym, ap, ap₂, ◌∙◌}
 use mathlib.Core.Bool.{Bool, true, false, ◌&&◌}
-use mathlib.Core.List.{List, [], ◌∷◌, ◌++◌}
+use mathlib.Core.List.{List, ◌∷◌, ◌++◌}
 use Prim.Native.Nat.{ℕ, suc, ◌+◌, ◌-◌, ◌≤◌, ◌<◌}
 use native.Mathlib.Omega.{arith}
-use lib.Dec.{eqb, ltb}
+use lib.Dec.{eqb}
 use lib.ListN.{length, get_or}
 use borrow.Author.Tests.{lt-ltb, le-ltb}
 use Rattle.terms.specs.Choice.{pick}
-use Rattle.formula.specs.Formula.{Atom, signal, var, input, output}
-use Rattle.formula.specs.Text.{Sign, atom, sign}
+use Rattle.formula.specs.Formula.{signal, var, input, output}
+use Rattle.formula.specs.Text.{atom, sign}
 use Rattle.alike.specs.Text.{alike_atoms, alike_signs, agree}
 use Rattle.alike.specs.declared.text.Sign.{Sign as Read}
 use Rattle.alike.specs.declared.text.Sign.TheVariants.{Atom as AtomOf, Word}

@@ -1,29 +1,26 @@
 -- From the rows of two compiled rules to their likeness, and the whole call.
 use mathlib.Core.Path.{◌≡◌, refl, sym, ap, ap₂, subst, ◌∙◌}
 use mathlib.Core.Bool.{Bool, true, false, ◌&&◌}
-use mathlib.Core.List.{List, [], ◌∷◌, ◌++◌}
+use mathlib.Core.List.{List}
 use mathlib.Core.Option.{Option, none, some}
-use Prim.Native.Nat.{ℕ, zero, suc, ◌+◌, ◌-◌, ◌*◌, ◌≤◌, ◌<◌, ◌^◌}
+use Prim.Native.Nat.{ℕ, suc, ◌+◌, ◌-◌, ◌*◌, ◌≤◌, ◌<◌}
 use native.Mathlib.Omega.{arith}
-use native.Mathlib.Nat.{add-zero}
-use lib.Dec.{leb}
 use lib.ListN.{length}
 use borrow.Author.Tests.{le-leb, lt-leb}
 use Rattle.result.specs.Result.{given, refused, or_else}
-use Rattle.formula.specs.Tree.{Tree, unknown, size, prefix}
-use Rattle.formula.specs.Spells.{run, Spells}
+use Rattle.formula.specs.Tree.{Tree, unknown, prefix}
+use Rattle.formula.specs.Spells.{run}
 use Rattle.formula.specs.Formula.{Formula}
-use Rattle.formula.specs.Table.{Rule, rule_of, is_some, roomy}
+use Rattle.formula.specs.Table.{rule_of, is_some, roomy}
 use Rattle.formula.proofs.Trees.{prefix_length, spells_run}
 use Rattle.formula.proofs.Nodes.{known_at}
 use Rattle.formula.proofs.Rules.{rule_inv}
-use Rattle.monitor.specs.declared.node.Row.{Row}
 use Rattle.monitor.specs.Mon.{Check, Mon}
 use Rattle.monitor.specs.Table.{Never, Join, Cell, cell_of, cell_by, cells, row_of, from_tree}
 use Rattle.monitor.proofs.HeldTree.{HoldsTree, held_inv}
 use Rattle.alike.specs.declared.Part.{Part}
-use Rattle.alike.specs.Alike.{alike_mon, part_of, likened, likeness_call, alike_some}
-use Rattle.alike.specs.Rows.{alike_cell, alike_cells, Shows, IsShown, SameRow, IsCompiled}
+use Rattle.alike.specs.Alike.{part_of, likened, likeness_call, alike_some}
+use Rattle.alike.specs.Rows.{alike_cells, Shows, IsShown, SameRow, IsCompiled}
 use Rattle.alike.proofs.Matches.{trees_alike, lengths_differ, cell_shown}
 
 -- ---- a compiled rule in the tables

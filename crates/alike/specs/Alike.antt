@@ -1,7 +1,7 @@
 -- Document 01, "The listing": two compiled rules are alike if nodes agree one for one, signal text compared with v, i, o taken as one letter.
---     alikeMon         likeness of two compiled rules
+--     alike_mon         likeness of two compiled rules
 --     result_of         document 01's result of the answer enum
---     likenessCall     the whole call: whether the rules are alike, or the refusal
+--     likeness_call     the whole call: whether the rules are alike, or the refusal
 use Rattle.std.specs.Prelude.{Bool, true, false, ◌&&◌, List, ℕ, eqb, leb, length}
 use Rattle.std.proofs.Math.Option.{Option, none, some}
 use Rattle.terms.specs.Limits.{node_cells}

@@ -1,15 +1,15 @@
 -- Two node tables' rows, compared one for one.
 --     Shows        the node in a row is that of a cell, and its signals stand in the formula table
 --     SameNode     the answer of comparing two nodes
-use Rattle.std.specs.Prelude.{Bool, true, false, ◌&&◌, List, [], ◌∷◌, ◌≡◌, ℕ, ◌+◌, ◌*◌, ◌≤◌, length}
-use Rattle.std.proofs.Math.Option.{Option, some}
+use Rattle.std.specs.Prelude.{Bool, true, false, ◌&&◌, List, ◌∷◌, ◌≡◌, ℕ, ◌≤◌}
+use Rattle.std.proofs.Math.Option.{some}
 use Rattle.formula.specs.Tree.{leaf_of, one_of, two_of, unknown}
 use Rattle.monitor.specs.declared.node.MonNode.{MonNode}
 use Rattle.monitor.specs.declared.node.MonNode.TheVariants.{And as AndNode, Or as OrNode}
 use Rattle.monitor.specs.declared.node.Row.{Row}
 use Rattle.monitor.specs.declared.node.Row.TheVariants.{Node, Unknown}
 use Rattle.monitor.specs.Mon.{Check, range_check, delayed_check, obligation, Mon, node_of}
-use Rattle.monitor.specs.Table.{Cell, Join, join_and, join_or, row_of, compiled_of}
+use Rattle.monitor.specs.Table.{Cell, Join, join_and, join_or}
 use Rattle.alike.specs.Alike.{alike_check, part_of}
 use Rattle.alike.specs.Signs.{Sound}
 use Rattle.alike.specs.declared.Part.{Part}

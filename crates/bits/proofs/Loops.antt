@@ -2,18 +2,18 @@
 --     Blanking    the bits up to k are zero
 --     Reading     n is the number of the bits from i on
 --     Inking      i bits of a number are written
-use mathlib.Core.Path.{◌≡◌, refl, sym, ap, ap₂, subst, ◌∙◌}
+use mathlib.Core.Path.{◌≡◌, refl, sym, ap, subst, ◌∙◌}
 use mathlib.Core.Bool.{Bool, true, false, ◌&&◌, cond}
 use mathlib.Core.Bool as bool
-use mathlib.Core.List.{List, [], ◌∷◌}
-use Prim.Native.Nat.{ℕ, zero, suc, ◌+◌, ◌-◌, ◌*◌, ◌/◌, ◌%◌, ◌^◌, ◌≤◌, ◌<◌}
+use mathlib.Core.List.{List}
+use Prim.Native.Nat.{ℕ, suc, ◌+◌, ◌-◌, ◌*◌, ◌/◌, ◌%◌, ◌^◌, ◌≤◌, ◌<◌}
 use native.Mathlib.Omega.{arith}
 use native.Mathlib.Nat.{two-pow-succ, pow-le-pow_right, zero-add}
 use lib.Dec.{eqb}
-use lib.ListN.{length, get_or, length-set}
+use lib.ListN.{length, length-set}
 use mir.Syntax.{w64}
 use mir.Val.{Fits}
-use Rattle.bits.specs.Bits.{bit_in, blank, digits, ink_bit, ink_bits, number, spelled, Room}
+use Rattle.bits.specs.Bits.{blank, digits, ink_bit, ink_bits, number, spelled, Room}
 
 -- ---- zero bits
 pub record Blanking (bits : ℕ → Bool) (from to room k : ℕ) : Type 0 where

@@ -1,24 +1,24 @@
 -- Bits packed into bytes.
---     packed-bit       bit k of packed bits is bit k of the list, and zero past it
---     packed-length    as many bytes as are needed
+--     packed_bit       bit k of packed bits is bit k of the list, and zero past it
+--     packed_length    as many bytes as are needed
 --     inked            written one after the other from bit 0 on, bits stand packed in front, and the bytes behind stay
 --     repacked         the bits of bytes, packed, are those bytes, where unused bits are zero
-use mathlib.Core.Path.{◌≡◌, refl, sym, ap, ap₂, subst, ◌∙◌}
+use mathlib.Core.Path.{◌≡◌, refl, sym, ap, subst, ◌∙◌}
 use mathlib.Core.Bool.{Bool, true, false, cond}
-use mathlib.Core.List.{List, [], ◌∷◌, ◌++◌, append_assoc, append-nil}
+use mathlib.Core.List.{List, ◌∷◌, ◌++◌, append_assoc, append-nil}
 use mathlib.Core.Logic.{⊎_elim}
 use Prim.Native.Nat.{ℕ, zero, suc, ◌+◌, ◌-◌, ◌*◌, ◌/◌, ◌%◌, ◌^◌, ◌≤◌, ◌<◌}
 use native.Mathlib.Omega.{arith}
 use native.Mathlib.Numerals.{add-one}
 use native.Mathlib.Nat.{mod-eq_of_lt, mod-one, zero-add}
-use lib.ListN.{length, get_or, set, take, drop, length-append, length-take, length-drop, length-set, get_or-append, get_or-eq_default, drop_of_length-le}
+use lib.ListN.{length, get_or, set, take, drop, length-append, length-drop, length-set, get_or-append, get_or-eq_default, drop_of_length-le}
 use lib.Seq.{sets, sets-eq, length-sets, ext_get_or, get_or-append_seam, get_or-append-add, get_or-take, get_or-drop, get_or-set_same, get_or-set_other, drop-append-le, take-append-le, take_all, take_at, drop_at, length-take-le}
 use Rattle.formula.specs.Pure.{bit}
 use Rattle.formula.proofs.Cases.{below_or}
 use Rattle.plan.specs.Book.{listed}
 use Rattle.encoding.specs.Encoding.{bytes_for}
-use Rattle.bits.specs.Bits.{bit_in, blank, digits, number, spelled, byte_of, packed, ink_bit, ink_bits}
-use Rattle.bits.proofs.Numbers.{number_small, number_snoc, number_digits, bit_number, spelled_length, spelled_like, spelled_append, blank_number, number_blank, byte_spelled}
+use Rattle.bits.specs.Bits.{bit_in, blank, number, spelled, byte_of, packed, ink_bit, ink_bits}
+use Rattle.bits.proofs.Numbers.{number_small, number_snoc, bit_number, spelled_length, spelled_like, spelled_append, blank_number, number_blank, byte_spelled}
 
 -- ---- lists
 listed_length : (f : ℕ → ℕ) (r : ℕ) → length (listed f r) ≡ r

@@ -1,11 +1,11 @@
 -- Document 02, order 3: bit k is bit k mod 8, lowest first, of byte k div 8; a number lies lowest bit first.
---     bitIn      bit k of bytes
+--     bit_in      bit k of bytes
 --     digits     the lowest bits of a number, lowest first
 --     number     the number that bits spell so
 --     spelled    so many bits from one on
 --     packed     bits as bytes; unused bits of the last one are zero. `packed_bit` (proofs/Packing.antt): bit k of them is bit k of the list
---     inkBit     bytes with bit k written, and those above it in its byte zero
-use Rattle.std.specs.Prelude.{Bool, true, false, ◌&&◌, cond, List, [], ◌∷◌, ℕ, zero, suc, ◌+◌, ◌*◌, ◌/◌, ◌%◌, ◌^◌, ◌≤◌, ◌<◌, eqb, length, get_or, set, take, drop}
+--     ink_bit     bytes with bit k written, and those above it in its byte zero
+use Rattle.std.specs.Prelude.{Bool, true, ◌&&◌, cond, List, ◌∷◌, ℕ, zero, suc, ◌+◌, ◌*◌, ◌/◌, ◌%◌, ◌^◌, ◌≤◌, ◌<◌, eqb, length, get_or, set, take, drop}
 use Rattle.std.proofs.Math.Bool as bool
 use Rattle.formula.specs.Pure.{bit}
 use Rattle.plan.specs.Book.{listed}

@@ -1,15 +1,14 @@
 -- The check over a book's lines: what its loop has found so far, and one law for each return.
 use mathlib.Core.Path.{◌≡◌, refl, sym, ap, ap₂, subst, ◌∙◌}
-use mathlib.Core.Bool.{Bool, true, false, ◌&&◌, not}
-use mathlib.Core.List.{List, [], ◌∷◌, ◌++◌}
+use mathlib.Core.Bool.{Bool, true, false}
+use mathlib.Core.List.{List, ◌∷◌}
 use mathlib.Core.Option.{Option, none, some}
-use Prim.Native.Nat.{ℕ, zero, suc, ◌+◌, ◌-◌, ◌*◌, ◌^◌, ◌≤◌, ◌<◌}
+use Prim.Native.Nat.{ℕ, zero, suc, ◌+◌, ◌-◌, ◌^◌, ◌≤◌, ◌<◌}
 use native.Mathlib.Omega.{arith}
-use native.Mathlib.Numerals.{add-one}
 use borrow.Author.Tests.{le-leb, lt-leb, eq-eqb, ne_eqb}
 use mir.Syntax.{w64}
 use mir.Val.{Fits}
-use lib.Dec.{eqb, leb}
+use lib.Dec.{eqb}
 use lib.ListN.{length, get_or, take, drop, length-drop, drop_of_length-le}
 use lib.Seq.{drop-drop, length-take-le}
 use Rattle.terms.specs.Choice.{pick}
@@ -18,7 +17,7 @@ use Rattle.line.specs.Line.{Line, bad, wrong, right, rule, node, step, states, s
 use Rattle.line.specs.Means.{means}
 use Rattle.line.specs.declared.line.Line as code
 use Rattle.line.proofs.Parts.{lines_next}
-use Rattle.book.specs.Book.{Book, empty, is_nil, whole, Fault, number_of, fault, add, add_line, Outcome, accepted, refused, BookResult, contents, refusal, book_result, unless, read_on, ended, read}
+use Rattle.book.specs.Book.{Book, empty, Fault, fault, add, add_line, Outcome, refusal, book_result, unless, read_on, ended, read}
 use Rattle.book.specs.Checked.{result_of, Lined, Small, HoldsBook, Agrees, TakesLine}
 use Rattle.book.specs.declared.state.State.{State}
 use Rattle.book.specs.declared.state.Taken.{Taken}

@@ -1,7 +1,6 @@
 -- The depths at which operands are due, as a depth and bits: a node's operands double the bits, a leaf climbs to the next set bit.
 use mathlib.Core.Path.{◌≡◌, refl, sym, ap, subst, ◌∙◌}
-use mathlib.Core.Bool.{Bool, true, false}
-use mathlib.Core.List.{List, [], ◌∷◌}
+use mathlib.Core.Bool.{true, false}
 use Prim.Native.Nat.{ℕ, zero, suc, ◌+◌, ◌-◌, ◌*◌, ◌/◌, ◌%◌, ◌^◌, ◌≤◌, ◌<◌}
 use native.Mathlib.Omega.{arith}
 use native.Mathlib.Numerals.{add-one}
@@ -9,7 +8,7 @@ use native.Mathlib.Nat.{pow-succ', pos_of_ne-zero, pow-le-pow_right}
 use borrow.Author.Tests.{eq-eqb, ne_eqb, lt-ltb, le-ltb}
 use mir.Syntax.{w64}
 use mir.Val.{Fits}
-use lib.Dec.{eqb, ltb}
+use lib.Dec.{eqb}
 use Rattle.book.specs.Book.{spend}
 use Rattle.book.specs.Checked.{depths, due_of, Small, DueIs}
 use Rattle.book.specs.declared.due.Due.{Due}

@@ -1,9 +1,9 @@
 -- A line taken into the state: one law for each return.
-use mathlib.Core.Path.{◌≡◌, refl, sym, ap, ap₂, subst, ◌∙◌}
+use mathlib.Core.Path.{◌≡◌, refl, sym, ap, subst, ◌∙◌}
 use mathlib.Core.Bool.{Bool, true, false, ◌&&◌, not}
-use mathlib.Core.List.{List, [], ◌∷◌, ◌++◌}
+use mathlib.Core.List.{List, ◌∷◌, ◌++◌}
 use mathlib.Core.Option.{Option, none, some}
-use Prim.Native.Nat.{ℕ, zero, suc, ◌+◌, ◌-◌, ◌*◌, ◌^◌, ◌≤◌, ◌<◌}
+use Prim.Native.Nat.{ℕ, zero, suc, ◌+◌, ◌-◌, ◌^◌, ◌≤◌, ◌<◌}
 use native.Mathlib.Omega.{arith}
 use native.Mathlib.Numerals.{add-one}
 use borrow.Author.Tests.{ne_eqb, lt-ltb, le-ltb, ltb-true, leb-true}
@@ -12,8 +12,7 @@ use mir.Val.{Fits}
 use lib.Dec.{eqb, ltb, leb}
 use lib.ListN.{length, take, drop, length-append}
 use Rattle.terms.specs.Limits.{book_nodes, book_rules, book_slots, deepest, rule_nodes}
-use Rattle.terms.specs.Choice.{pick}
-use Rattle.line.specs.Line.{Line, bad, wrong, right, sort_of, rule, node, step, states, slot, flaw_number}
+use Rattle.line.specs.Line.{Line, right, sort_of, states, flaw_number}
 use Rattle.line.specs.Means.{held, sort_in, means}
 use Rattle.line.specs.declared.line.Sort.{Sort}
 use Rattle.line.specs.declared.line.Sort.TheVariants as sort
@@ -23,7 +22,7 @@ use Rattle.line.specs.declared.line.Content.TheVariants as contents
 use Rattle.line.specs.declared.line.Line as code-line
 use Rattle.line.specs.declared.line.Line.TheVariants as lines
 use Rattle.line.proofs.Lines.{sort_held}
-use Rattle.book.specs.Book.{Book, empty, is_nil, whole, head_of, last_of, bump, spend, Fault, number_of, word, place, unopened, field, limit, opening, stands, opens, within, first_fault, fault, add, add_line}
+use Rattle.book.specs.Book.{Book, empty, is_nil, whole, head_of, last_of, bump, spend, Fault, number_of, word, place, unopened, field, limit, opening, stands, opens, within, first_fault, fault, add}
 use Rattle.book.specs.Checked.{due_of, depths, Small, DueIs, HoldsBook, Inside, NodeRoom, Room, SlotRoom, StillOpening, MayStand, Opens, Within, Addable, Adds, Agrees, TakesLine, TakesContent}
 use Rattle.book.specs.declared.due.Due.{Due}
 use Rattle.book.specs.declared.state.State.{State}

@@ -1,10 +1,10 @@
 -- EVERY OLD BOOK READS AS IT DID. A text without opening lines is read as document 01 alone reads it, refusals with their lines included; and what
 -- document 01 accepts is accepted with the same rules, nodes and steps, with no state and no slot.
-use mathlib.Core.Path.{◌≡◌, refl, sym, ap, ap₂, subst, ◌∙◌}
-use mathlib.Core.Bool.{Bool, true, false, ◌&&◌}
-use mathlib.Core.List.{List, [], ◌∷◌}
+use mathlib.Core.Path.{◌≡◌, refl, sym, ap, subst, ◌∙◌}
+use mathlib.Core.Bool.{Bool, true, false}
+use mathlib.Core.List.{List, ◌∷◌}
 use mathlib.Core.Option.{Option, none, some}
-use Prim.Native.Nat.{ℕ, zero, suc, ◌+◌}
+use Prim.Native.Nat.{ℕ, ◌+◌}
 use native.Mathlib.Omega.{arith}
 use lib.Dec.{eqb, leb, ltb}
 use lib.ListN.{length}
@@ -17,16 +17,15 @@ use Rattle.number.specs.declared.Number.TheVariants as number
 use Rattle.words.specs.Same.{eqbs}
 use Rattle.words.proofs.Codes.{same_bytes}
 use Rattle.line.specs.Text.{lines, fields}
-use Rattle.words.specs.Word.{Entry, vocabulary, lookup, word_of}
+use Rattle.words.specs.Word.{Entry, lookup, word_of}
 use Rattle.line.specs.Line as spec
-use Rattle.line.specs.Line.{Content, rule, node, step, states, slot, sort_of, Line, bad, wrong, right, rule_kind, rule_line, atom_line, bound_line, step_line, no_field, one_field, two_fields, content, of_fields, parse}
+use Rattle.line.specs.Line.{rule, node, step, states, slot, sort_of, Line, bad, wrong, right, rule_kind, rule_line, atom_line, bound_line, step_line, no_field, one_field, two_fields, content, of_fields, parse}
 use Rattle.words.specs.declared.word.Word.{Word}
 use Rattle.words.specs.declared.word.Word.TheVariants as word
 use Rattle.line.specs.declared.line.Sort.{Sort}
 use Rattle.line.specs.declared.line.Sort.TheVariants as sort
 use Rattle.line.specs.declared.line.Flaw.TheVariants as flaw
-use Rattle.line.specs.declared.line.Flaw.{Flaw}
-use Rattle.book.specs.Book.{Book, empty, whole, Fault, order, or_else, first_fault, fault, opens, add, add_line, Outcome, accepted, refused, unless, read_on, ended, read}
+use Rattle.book.specs.Book.{Book, empty, whole, Fault, first_fault, fault, opens, add, add_line, Outcome, accepted, refused, unless, read_on, ended, read}
 use Rattle.book_laws.specs.Before.{words_before, of_fields_before, parse_before, order_before, read_on_before, read_before, first_field, NoOpeningLine, NoOpenings, NoOpening, Unopened}
 
 -- ---- sorts and lines of document 01

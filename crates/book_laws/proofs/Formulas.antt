@@ -1,14 +1,13 @@
 -- The nodes of a rule in hand: whatever trees stand at the places still due, the nodes read so far and theirs are one formula.
-use mathlib.Core.Path.{◌≡◌, refl, sym, ap, ap₂, subst, ◌∙◌}
-use mathlib.Core.Bool.{Bool, true, false, ◌&&◌}
-use mathlib.Core.List.{List, [], ◌∷◌, ◌++◌, append_assoc, append-nil}
+use mathlib.Core.Path.{◌≡◌, sym, ap, ap₂, subst, ◌∙◌}
+use mathlib.Core.Bool.{true, ◌&&◌}
+use mathlib.Core.List.{List, ◌∷◌, ◌++◌, append_assoc, append-nil}
 use mathlib.Core.Logic.{⊎_elim}
-use Prim.Native.Nat.{ℕ, zero, suc, ◌+◌, ◌≤◌, ◌<◌, max}
+use Prim.Native.Nat.{ℕ, suc, ◌+◌, ◌≤◌}
 use native.Mathlib.Omega.{arith}
 use borrow.Author.Tests.{lt-ltb, le-ltb, le-leb}
-use lib.Dec.{ltb, leb}
 use Rattle.number.proofs.Numbers.{below_or}
-use Rattle.formula.specs.Tree.{Tree, leaf, one, two, Token, leaf_of, one_of, two_of, unknown, size, depth, prefix, all}
+use Rattle.formula.specs.Tree.{leaf, one, two, leaf_of, one_of, two_of, depth, prefix, all}
 use Rattle.formula.specs.Formula.{Atom, Unary, Binary, Formula, Node, node, signal}
 use Rattle.formula.specs.Table.{in_word}
 use Rattle.formula.proofs.Nodes.{node_leaf, node_one, node_two}

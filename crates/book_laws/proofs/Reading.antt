@@ -1,21 +1,17 @@
 -- The lines of a list that is written out, parsed.
-use mathlib.Core.Path.{◌≡◌, refl, sym, ap, ap₂, subst, ◌∙◌}
-use mathlib.Core.Bool.{Bool, true, false, ◌&&◌}
-use mathlib.Core.List.{List, [], ◌∷◌, ◌++◌, map}
-use Prim.Native.Nat.{ℕ, zero, suc, ◌+◌, ◌^◌, ◌≤◌, ◌<◌}
+use mathlib.Core.Path.{◌≡◌, refl, ap, ◌∙◌}
+use mathlib.Core.Bool.{true}
+use mathlib.Core.List.{List, ◌∷◌, ◌++◌}
+use Prim.Native.Nat.{ℕ, zero, suc, ◌+◌, ◌^◌, ◌<◌}
 use native.Mathlib.Omega.{arith}
-use borrow.Author.Tests.{lt-ltb, le-leb, leb-true}
-use lib.Dec.{eqb, leb, ltb}
-use lib.ListN.{length, get_or}
+use borrow.Author.Tests.{lt-ltb, le-leb}
+use lib.Dec.{eqb}
 use Rattle.terms.specs.Choice.{pick}
-use Rattle.number.specs.Number.{decimal_of, hex_of}
-use Rattle.number.specs.declared.Number.{Number}
-use Rattle.number.specs.declared.Number.TheVariants.{Value, Wrong}
+use Rattle.number.specs.Number.{decimal_of}
 use Rattle.formula.specs.Tree.{leaf_of, one_of, two_of, unknown}
-use Rattle.formula.specs.Formula.{Atom, Node, signal, var, input, output, not, next, always, eventually, always_for, within, and, or, implies, until}
-use Rattle.formula.specs.Table.{in_word}
+use Rattle.formula.specs.Formula.{Node, var, input, output, not, next, always, eventually, always_for, within, and, or, implies, until}
 use Rattle.words.specs.Same.{eqbs}
-use Rattle.line.specs.Text.{parts, onto, lines, fields}
+use Rattle.line.specs.Text.{parts, onto, fields}
 use Rattle.words.specs.Word.{word_of, lookup}
 use Rattle.line.specs.Line.{rule, node, step, states, slot, wrong, right, is_label, kind_byte, kind_of, rule_kind, rule_line, atom_line, bound_line, step_line, states_line, width_line, slot_line, content, of_fields, parse}
 use Rattle.line.specs.declared.line.Sort.TheVariants as sort

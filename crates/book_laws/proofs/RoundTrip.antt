@@ -1,13 +1,13 @@
 -- THE ROUND TRIP. Opening lines and a list of rules and steps within the limits, written out as lines, is a book that is accepted, and reading it gives
 -- the list back. So a definition that refuses too much is shut out.
-use mathlib.Core.Path.{◌≡◌, refl, sym, ap, subst, ◌∙◌}
-use mathlib.Core.Bool.{Bool, true, false}
-use mathlib.Core.List.{List, [], ◌∷◌, ◌++◌, map}
+use mathlib.Core.Path.{◌≡◌, refl, ap, ◌∙◌}
+use mathlib.Core.Bool.{true}
+use mathlib.Core.List.{List, ◌∷◌, ◌++◌, map}
 use Prim.Native.Nat.{ℕ}
 use borrow.Author.Tests.{le-leb}
 use lib.ListN.{length}
 use Rattle.line.specs.Text.{lines}
-use Rattle.book.specs.Book.{Book, StepLine, empty, accepted, read_on, ended, read}
+use Rattle.book.specs.Book.{StepLine, empty, read_on, ended, read}
 use Rattle.book_laws.specs.Write.{RuleText, OpeningText, opening_lines, rule_lines, step_text, unlines, book_text, Limited, ReadBack}
 use Rattle.book_laws.proofs.Texts.{lines_unlines}
 use Rattle.book_laws.proofs.Trips.{free_book, BookRead, book_read}

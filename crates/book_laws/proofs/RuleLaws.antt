@@ -1,25 +1,25 @@
 -- An accepted book's rules are formulas: what holds of the rules read so far, and the proof of the theorem of RulesOfBook.antt.
 use mathlib.Core.Path.{◌≡◌, refl, sym, ap, ap₂, subst, ◌∙◌}
-use mathlib.Core.Bool.{Bool, true, false, ◌&&◌, not}
-use mathlib.Core.List.{List, [], ◌∷◌, ◌++◌, append_assoc, append-nil}
-use mathlib.Core.Option.{Option, none, some}
-use Prim.Native.Nat.{ℕ, zero, suc, ◌+◌, ◌-◌, ◌*◌, ◌^◌, ◌≤◌, ◌<◌}
+use mathlib.Core.Bool.{Bool, true, false, ◌&&◌}
+use mathlib.Core.List.{List, ◌∷◌, ◌++◌}
+use mathlib.Core.Option.{some}
+use Prim.Native.Nat.{ℕ, zero, suc, ◌+◌, ◌-◌, ◌≤◌, ◌<◌}
 use native.Mathlib.Omega.{arith}
 use native.Mathlib.Numerals.{add-one}
 use lib.ListN.{length, get_or, take, drop, length-append, length-drop, get_or-append}
-use lib.Seq.{drop-cons, drop-append-le, take-append-le, drop-append_seam, length-take-le, take-length}
+use lib.Seq.{drop-cons, drop-append-le, take-append-le, length-take-le}
 use Rattle.terms.specs.Choice.{pick}
-use Rattle.formula.specs.Tree.{Tree, unknown, size, depth, prefix, all}
+use Rattle.formula.specs.Tree.{unknown, size, prefix}
 use Rattle.formula.specs.Spells.{run}
 use Rattle.formula.specs.Formula.{Formula, Node, node}
-use Rattle.formula.specs.Table.{node_at, in_word, rule_of, Rule}
+use Rattle.formula.specs.Table.{node_at, rule_of, Rule}
 use Rattle.formula.proofs.Trees.{run_spells, prefix_length}
 use Rattle.formula.proofs.Rules.{rule_of_lem}
 use Rattle.line.specs.Text.{lines}
 use Rattle.line.specs.Line.{Content, rule, step, states, slot, Line, right, parse}
 use Rattle.line.specs.Line as spec
 use Rattle.line.proofs.Sane.{Sane, NodeSane}
-use Rattle.book.specs.Book.{Book, StepLine, empty, is_nil, whole, head_of, last_of, bump, spend, fault, add, add_line, Outcome, accepted, refused, read_on, read}
+use Rattle.book.specs.Book.{Book, StepLine, empty, is_nil, whole, head_of, last_of, bump, spend, fault, add, add_line, accepted, refused, read_on, read}
 use Rattle.book.specs.declared.state.States.{States}
 use Rattle.book.specs.declared.state.States.TheVariants.{Stood}
 use Rattle.reader.specs.BookTables.{BookTables, SlotTables, over, written, roomy, roomy_slots, read_into}

@@ -1,28 +1,27 @@
 -- Reading the lines of a list that is written out: the opening lines, a node, a formula, the rules, the steps.
 use mathlib.Core.Path.{◌≡◌, refl, sym, ap, ap₂, subst, ◌∙◌}
-use mathlib.Core.Bool.{Bool, true, false, ◌&&◌}
-use mathlib.Core.List.{List, [], ◌∷◌, ◌++◌, map, append_assoc, append-nil}
-use mathlib.Core.Option.{Option, none, some}
-use Prim.Native.Nat.{ℕ, zero, suc, ◌+◌, ◌-◌, ◌^◌, ◌≤◌, ◌<◌, max}
+use mathlib.Core.Bool.{Bool, true, false}
+use mathlib.Core.List.{List, ◌∷◌, ◌++◌, map, append_assoc, append-nil}
+use mathlib.Core.Option.{none}
+use Prim.Native.Nat.{ℕ, suc, ◌+◌, ◌-◌, ◌^◌, ◌≤◌, ◌<◌}
 use native.Mathlib.Omega.{arith}
 use native.Mathlib.Numerals.{add-one}
 use borrow.Author.Tests.{lt-ltb, le-leb, leb-true}
-use lib.Dec.{leb, ltb}
 use lib.ListN.{length, length-append}
 use Rattle.terms.specs.Choice.{pick}
-use Rattle.formula.specs.Tree.{Tree, leaf, one, two, leaf_of, one_of, two_of, unknown, prefix, size, depth, all}
-use Rattle.formula.specs.Formula.{Atom, Unary, Binary, Formula, Node, signal, var, input, output, not, next, always, eventually, always_for, within, and, or, implies, until}
+use Rattle.formula.specs.Tree.{leaf, one, two, leaf_of, one_of, two_of, prefix, size, depth, all}
+use Rattle.formula.specs.Formula.{Atom, Unary, Binary, Formula, Node, var, input, output, not, next, always, eventually, always_for, within, and, or, implies, until}
 use Rattle.formula.specs.Table.{in_word}
 use Rattle.formula.proofs.Trees.{prefix_length}
 use Rattle.line.specs.Line.{Content, rule, step, states, slot, right, parse}
 use Rattle.line.specs.Line as spec
-use Rattle.book.specs.Book.{Book, StepLine, empty, is_nil, whole, head_of, last_of, bump, spend, opening, stands, opens, first_fault, fault, add, accepted, refused, read_on}
+use Rattle.book.specs.Book.{Book, StepLine, empty, is_nil, head_of, last_of, bump, spend, opening, stands, opens, first_fault, fault, add, accepted, refused, read_on}
 use Rattle.book.specs.Book as books
 use Rattle.book.specs.declared.state.States.{States}
 use Rattle.book.specs.declared.state.States.TheVariants.{Absent, Stood}
 use Rattle.book.proofs.States.{last_snoc}
 use Rattle.book_laws.specs.Write.{RuleText, SlotText, OpeningText, op_of, num_of, node_text, head_text, step_text, states_lines, slot_text, opening_lines, rule_lines, CountLimited, SlotsLimited, OpeningLimited, name_of, width_of, Bounded, RuleLimited, RulesLimited, StepsLimited, nodes_of, firsts_from, label_of, kind_of, count_of}
-use Rattle.book_laws.proofs.Texts.{free, AllFree}
+use Rattle.book_laws.proofs.Texts.{AllFree}
 use Rattle.book_laws.proofs.Reading.{TokenOk, node_line, node_free, head_line, head_free, step_line_lem, step_free, states_line_lem, states_free, slot_line_lem, slot_free}
 use Rattle.book_laws.proofs.RuleLaws.{bump_snoc}
 

@@ -1,8 +1,8 @@
 -- A book as document 01 alone reads it: without the words of the opening lines, and with document 01's own order of tests.
---     readBefore    what document 01 says of a text
+--     read_before    what document 01 says of a text
 --     NoOpening     no line begins with `states` or `slot`
-use Rattle.std.specs.Prelude.{◌≡◌, Bool, true, false, List, [], ◌∷◌, ℕ, ◌+◌, leb, length, take}
-use Rattle.std.proofs.Math.Option.{Option, none, some}
+use Rattle.std.specs.Prelude.{◌≡◌, false, List, ◌∷◌, ℕ, ◌+◌, leb, length, take}
+use Rattle.std.proofs.Math.Option.{Option}
 use Rattle.terms.specs.Limits.{book_bytes}
 use Rattle.terms.specs.Choice.{pick}
 use Rattle.words.specs.Same.{eqbs}

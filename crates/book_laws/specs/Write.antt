@@ -1,8 +1,8 @@
 -- The book of documents 01 and 02, from the other side: opening lines, a rule list and steps written out as lines.
---     bookText    the text of opening lines, of a list of rules and of steps
+--     book_text    the text of opening lines, of a list of rules and of steps
 --     Limited     the limits within which such a list is a book
 --     ReadBack    what reading gives back
-use Rattle.std.specs.Prelude.{◌≡◌, Bool, true, false, ◌&&◌, List, [], ◌∷◌, ◌++◌, map, ℕ, zero, suc, ◌+◌, ◌^◌, ◌≤◌, ◌<◌, length}
+use Rattle.std.specs.Prelude.{◌≡◌, true, List, ◌∷◌, ◌++◌, map, ℕ, ◌+◌, ◌^◌, ◌≤◌, ◌<◌, length}
 use Rattle.terms.specs.Limits.{book_bytes, book_nodes, book_rules, book_slots, deepest, rule_nodes, slot_most, state_counts}
 use Rattle.number.specs.Digits.{decimal, hex_digits}
 use Rattle.formula.specs.Tree.{leaf_of, one_of, two_of, unknown, prefix, size, depth, all}
@@ -30,7 +30,7 @@ pub record OpeningText : Type 0 where
 
 -- ---- lines
 -- a node's number in a formula table, the number beside it, and its line: `var`, `in`, `out`, `not`, `next`, `always`, `eventually`,
--- `always_for`, `within`, `and`, `or`, `implies`, `until`
+-- `always-for`, `within`, `and`, `or`, `implies`, `until`
 abbrev pub op_of : Node → ℕ
 op_of (leaf_of (var n)) = 0
 op_of (leaf_of (input n)) = 1

@@ -1,7 +1,7 @@
 -- An output of 262,144 bytes is never too short, so the listing stands in front of it.
 use mathlib.Core.Bool.{true}
 use mathlib.Core.List.{List, ◌++◌}
-use mathlib.Core.Path.{◌≡◌, refl, sym, ap, ◌∙◌}
+use mathlib.Core.Path.{◌≡◌, sym, ap, ◌∙◌}
 use Prim.Native.Nat.{ℕ, ◌≤◌}
 use native.Mathlib.Omega.{arith}
 use borrow.Author.Tests.{le-leb}
@@ -14,7 +14,7 @@ use Rattle.result.specs.Result.{Result, given, refused}
 use Rattle.listing_text.specs.Listing.{listing}
 use Rattle.listing.specs.declared.whole.Listed.{Listed}
 use Rattle.listing.specs.declared.whole.Listed.TheVariants.{Text, Refused}
-use Rattle.listing.specs.Lists.{Call, result_of, list_call, Answers, Within}
+use Rattle.listing.specs.Lists.{result_of, list_call, Answers, Within}
 
 module _ (a : Listed) (text old new : List ℕ) (w : Answers (list_call text old) a new) (h : length old ≡ 262144) where
   long : leb 262144 (length old) ≡ true

@@ -7,12 +7,12 @@ use native.Mathlib.Omega.{arith}
 use native.Mathlib.Nat.{add-mul-mod_self_left, mod-eq_of_lt, add-mul-div_left, div-eq_of_lt}
 use lib.Seq.{sets}
 use Rattle.result.specs.Result.{Result, given}
-use Rattle.book.specs.Book.{BookResult, book_result, refused}
+use Rattle.book.specs.Book.{book_result}
 use Rattle.reader.specs.BookTables.{BookTables, SlotTables, read_into}
 use Rattle.reader.specs.Answer as Reading
 use Rattle.reader.specs.Answer.{Reads}
 use Rattle.reader.specs.Steps as Steps
-use Rattle.reader.specs.Steps.{Next, next_step}
+use Rattle.reader.specs.Steps.{next_step}
 use Rattle.reader.specs.declared.read.Answer.{Answer}
 use Rattle.reader.specs.declared.read.Answer.TheVariants.{Read, Refused}
 use Rattle.reader.specs.declared.steps.StepRead.{StepRead}
@@ -28,7 +28,7 @@ use Rattle.lent.specs.Lent.{LentMonitor}
 use Rattle.stepping.specs.Call as Stepping
 use Rattle.stepping.specs.Call.{step_call}
 use Rattle.stepping.specs.Fresh as Making
-use Rattle.stepping.specs.Fresh.{fresh_call, FreshAnswers}
+use Rattle.stepping.specs.Fresh.{FreshAnswers}
 use Rattle.runs.specs.declared.RunVerdict.{RunVerdict}
 use Rattle.runs.specs.Run as Runs
 use Rattle.runs.specs.Run.{run_call}

@@ -1,10 +1,10 @@
 -- What each answer is said as, from which answer it is.
 use mathlib.Core.Bool.{Bool, true, false, cond}
-use mathlib.Core.List.{List, [], ◌∷◌}
-use mathlib.Core.Path.{◌≡◌, refl, sym, ap, ap₂, subst, ◌∙◌}
-use Prim.Native.Nat.{ℕ, ◌+◌, ◌*◌, ◌≤◌, ◌<◌}
+use mathlib.Core.List.{List}
+use mathlib.Core.Path.{◌≡◌, sym, ap, ap₂, subst, ◌∙◌}
+use Prim.Native.Nat.{ℕ, ◌+◌, ◌*◌, ◌≤◌}
 use native.Mathlib.Omega.{arith}
-use lib.ListN.{length, set}
+use lib.ListN.{set}
 use lib.Seq.{sets}
 use mir.Syntax.{w64}
 use mir.Val.{Fits}
@@ -32,7 +32,7 @@ use Rattle.saving.specs.declared.save.Saved.TheVariants.{Bytes, Refused as NotSa
 use Rattle.listing.specs.Lists as Listing
 use Rattle.listing.specs.declared.whole.Listed.{Listed}
 use Rattle.listing.specs.declared.whole.Listed.TheVariants.{Text, Refused as NotListed}
-use Rattle.cavewatch_c.specs.Numbers.{Told, told, stood_in, book_told, line_told, count_told, step_told, run_told}
+use Rattle.cavewatch_c.specs.Numbers.{told, stood_in, book_told, line_told, count_told, step_told, run_told}
 use Rattle.cavewatch_c.specs.Said.{SaysTold, told_by, SmallLine}
 use Rattle.cavewatch_c.specs.declared.tell.Said.{Said}
 use Rattle.cavewatch_c.specs.declared.tell.Said.TheVariants.{Number, One, Three, Six}

@@ -1,14 +1,14 @@
 -- From the walk's answer to the call's.
 use mathlib.Core.Path.{◌≡◌, refl, sym, ap, ap₂, subst, ◌∙◌}
 use mathlib.Core.Bool.{Bool, true, false, ◌&&◌}
-use mathlib.Core.List.{List, [], ◌∷◌}
+use mathlib.Core.List.{List}
 use mathlib.Core.Option.{Option, none, some}
-use Prim.Native.Nat.{ℕ, ◌+◌, ◌*◌, ◌≤◌, ◌<◌, ◌^◌}
+use Prim.Native.Nat.{ℕ, ◌+◌, ◌*◌, ◌≤◌, ◌<◌}
 use native.Mathlib.Omega.{arith}
 use native.Mathlib.Nat.{zero-add}
 use lib.Dec.{leb}
 use lib.ListN.{length, take}
-use lib.Seq.{sets, sets-eq, length-sets, take_at}
+use lib.Seq.{sets, sets-eq, take_at}
 use borrow.Author.Tests.{le-leb, lt-leb}
 use mir.Syntax.{w64}
 use mir.Val.{Fits}
@@ -23,8 +23,8 @@ use Rattle.compiler.specs.declared.Laid.TheVariants.{Upto, Refused}
 use Rattle.compiler.specs.declared.Compiled.{Compiled}
 use Rattle.compiler.specs.declared.Compiled.TheVariants.{Nodes, Refused as NotCompiled}
 use Rattle.monitor.specs.Range.{all_of, Shiftable}
-use Rattle.monitor.specs.Mon.{Mon, count, rows}
-use Rattle.monitor.specs.Compile.{faults, node, rule_faults, rule_node}
+use Rattle.monitor.specs.Mon.{count, rows}
+use Rattle.monitor.specs.Compile.{node, rule_faults, rule_node}
 use Rattle.compiler.specs.Compiled.{CompileReady, LaidAt, CompiledAt, Call, Answers, result_of, first_or, compile_formula, rule_call, compile_call, or_short, refuse, refused_as}
 use Rattle.compiler.proofs.Joining.{laid_upto, laid_no, rows_length, count_size}
 

@@ -1,8 +1,8 @@
 -- One step of the compiler's walk, for each word.
-use mathlib.Core.Path.{◌≡◌, refl, sym, ap, ap₂, subst, ◌∙◌}
+use mathlib.Core.Path.{◌≡◌, refl, sym, ap, subst, ◌∙◌}
 use mathlib.Core.Bool.{Bool, true, false}
-use mathlib.Core.List.{List, [], ◌∷◌, ◌++◌}
-use Prim.Native.Nat.{ℕ, ◌+◌, ◌-◌, ◌*◌, ◌≤◌, ◌<◌, ◌^◌}
+use mathlib.Core.List.{List, ◌∷◌, ◌++◌}
+use Prim.Native.Nat.{ℕ, ◌+◌, ◌*◌, ◌≤◌, ◌<◌, ◌^◌}
 use native.Mathlib.Omega.{arith}
 use lib.ListN.{length, get_or}
 use lib.Seq.{sets}
@@ -12,7 +12,7 @@ use Rattle.formula.specs.declared.table.Walk.{Walk}
 use Rattle.formula.specs.declared.table.Walk.TheVariants.{Upto as Ends, Stuck}
 use Rattle.formula.specs.Tree.{leaf, one, two, size}
 use Rattle.formula.specs.Spells.{Spells}
-use Rattle.formula.specs.Formula.{Formula, Atom, signal, not, next, always, eventually, always_for, within, and, or, implies, until}
+use Rattle.formula.specs.Formula.{Formula, not, next, always, eventually, always_for, within, implies}
 use Rattle.formula.specs.Table.{node_at, Placed}
 use Rattle.formula.specs.Pure.{pure, unless}
 use Rattle.formula.specs.Signal.{Purely}
@@ -21,17 +21,16 @@ use Rattle.formula.proofs.Nodes.{unary_number}
 use Rattle.formula.proofs.Places.{leaf_there, in_ops, in_nums, placed_one, placed_left, placed_right}
 use Rattle.formula.proofs.Signals.{purely_yes, purely_no}
 use Rattle.monitor.specs.declared.range.AnchorRange.{AnchorRange}
-use Rattle.monitor.specs.declared.node.SignalExpr.{SignalExpr}
 use Rattle.monitor.specs.declared.node.SignalExpr.TheVariants.{True, At}
 use Rattle.monitor.specs.declared.node.MonNode.{MonNode}
-use Rattle.monitor.specs.declared.node.MonNode.TheVariants.{RangeCheck, DelayedCheck, Obligation, And as AndNode, Or as OrNode}
+use Rattle.monitor.specs.declared.node.MonNode.TheVariants.{RangeCheck, DelayedCheck, Obligation}
 use Rattle.compiler.specs.declared.Laid.{Laid}
 use Rattle.compiler.specs.declared.Laid.TheVariants.{Upto, Refused}
-use Rattle.monitor.specs.Range.{all_of, upto_of, shifted_of, Shiftable}
-use Rattle.monitor.specs.Mon.{always_true, at, Check, range_check, delayed_check, obligation, Mon, check, And, Or, count, rows, node_row, node_of}
-use Rattle.monitor.specs.Compile.{when, consequent, faults, anchor, implication, node}
+use Rattle.monitor.specs.Range.{upto_of, shifted_of, Shiftable}
+use Rattle.monitor.specs.Mon.{always_true, at, Check, range_check, delayed_check, obligation, Mon, check, count, rows, node_row, node_of}
+use Rattle.monitor.specs.Compile.{consequent, faults, anchor, implication, node}
 use Rattle.compiler.specs.Compiled.{CompileReady, Implied, LaidAt, CheckLaid, CompiledAt}
-use Rattle.compiler.proofs.Words.{is_not, is_next, is_always, is_eventually, is_always_for, is_within, is_and, is_or, is_implies, is_until}
+use Rattle.compiler.proofs.Words.{is_not, is_next, is_within, is_implies}
 
 -- ---- what a walk is handed
 module _ (ops nums : List ℕ) (i : ℕ) (r : AnchorRange) (out : List ℕ) (to : ℕ) (d : CompileReady ops nums i r out to) where

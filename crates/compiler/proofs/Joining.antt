@@ -1,8 +1,8 @@
--- The compiler's walk over words that have whole checks below them: `always`, `always_for`, `and`, `or`.
+-- The compiler's walk over words that have whole checks below them: `always`, `always-for`, `and`, `or`.
 use mathlib.Core.Path.{◌≡◌, refl, sym, ap, ap₂, subst, ◌∙◌}
 use mathlib.Core.Bool.{Bool, true, false}
-use mathlib.Core.Logic.{◌⊎◌, inl, inr, ⊎_elim}
-use mathlib.Core.List.{List, [], ◌∷◌, ◌++◌, append_assoc}
+use mathlib.Core.Logic.{⊎_elim}
+use mathlib.Core.List.{List, ◌∷◌, ◌++◌}
 use Prim.Native.Nat.{ℕ, ◌+◌, ◌-◌, ◌*◌, ◌≤◌, ◌<◌, ◌^◌}
 use native.Mathlib.Omega.{arith}
 use native.Mathlib.Nat.{pos_of_ne-zero}
@@ -11,14 +11,14 @@ use lib.ListN.{length, get_or, length-append}
 use lib.Seq.{sets, length-sets}
 use borrow.Author.Tests.{eq-eqb, ne_eqb, lt-ltb, le-ltb}
 use Rattle.terms.specs.Choice.{pick}
-use Rattle.formula.specs.Tree.{leaf, one, two, one_of, two_of, size}
+use Rattle.formula.specs.Tree.{leaf, one, two, two_of, size}
 use Rattle.formula.specs.Spells.{Spells}
 use Rattle.formula.specs.Formula.{Formula, Binary, not, next, always, eventually, always_for, within, and, or, implies, until}
-use Rattle.formula.specs.Table.{node_at, Placed}
+use Rattle.formula.specs.Table.{node_at}
 use Rattle.formula.proofs.Cases.{below_or}
 use Rattle.formula.proofs.Trees.{size_pos}
 use Rattle.formula.proofs.Nodes.{number_of, binary_number}
-use Rattle.formula.proofs.Places.{leaf_there, one_there, two_there, in_ops, in_nums, placed_one, placed_left, placed_right}
+use Rattle.formula.proofs.Places.{one_there, two_there, in_ops}
 use Rattle.monitor.specs.declared.range.AnchorRange.{AnchorRange}
 use Rattle.monitor.specs.declared.node.MonNode.{MonNode}
 use Rattle.monitor.specs.declared.node.MonNode.TheVariants.{And as AndNode, Or as OrNode}

@@ -1,11 +1,11 @@
 -- What an operation's number says of the formula that stands there.
-use mathlib.Core.Path.{◌≡◌, refl, sym, ap, subst, ◌∙◌}
+use mathlib.Core.Path.{◌≡◌, refl, ap, ◌∙◌}
 use mathlib.Core.List.{List}
 use Prim.Native.Nat.{ℕ, ◌+◌}
 use lib.ListN.{get_or}
-use Rattle.formula.specs.Tree.{leaf, one, two, one_of, two_of, size}
+use Rattle.formula.specs.Tree.{one, two, one_of, two_of, size}
 use Rattle.formula.specs.Spells.{Spells}
-use Rattle.formula.specs.Formula.{Unary, Binary, Formula, Node, node, not, next, always, eventually, always_for, within, and, or, implies, until}
+use Rattle.formula.specs.Formula.{Unary, Binary, Formula, node, not, next, always, eventually, always_for, within, and, or, implies, until}
 use Rattle.formula.specs.Table.{node_at}
 use Rattle.formula.proofs.Nodes.{spells_one, spells_two}
 

@@ -1,8 +1,8 @@
 -- What the compiler answers and leaves in the lent output.
 --     CompiledAt     the walk at one place
 --     result_of       document 01's result of the answer enum
---     compileCall    the whole call: document 01's result, the count of nodes, and the output afterwards
-use Rattle.std.specs.Prelude.{Bool, true, false, ◌&&◌, List, [], ◌∷◌, ◌≡◌, ℕ, ◌+◌, ◌*◌, ◌≤◌, leb, length, get_or}
+--     compile_call    the whole call: document 01's result, the count of nodes, and the output afterwards
+use Rattle.std.specs.Prelude.{Bool, true, false, ◌&&◌, List, ◌∷◌, ◌≡◌, ℕ, ◌+◌, ◌*◌, ◌≤◌, leb, length, get_or}
 use Rattle.std.proofs.Math.Option.{Option, none, some}
 use Rattle.std.proofs.lemmas.List.Edits.{sets}
 use Rattle.terms.specs.Limits.{node_cells, row_cells}

@@ -265,7 +265,7 @@ fn compile_pair(
     compile_check(ops, nums, j, range, temporal, out, n)
 }
 
-// `always_for` is not allowed under a temporal operator, nor with bound 0.
+// `always-for` is not allowed under a temporal operator, nor with bound 0.
 #[cycle(compile_always_for_compile_check_compile_pair)]
 fn compile_always_for(
     ops: &[u8],

@@ -1,11 +1,11 @@
 -- The rows that `compile_formula` leaves in its output read back as the compiled rule.
---     reads-stored       wherever a table holds the rows of a rule that no refusal applies to
---     reads-back         from the output's start
---     compiled-reads     for the call's own definition, where its answer is a count of nodes
+--     reads_stored       wherever a table holds the rows of a rule that no refusal applies to
+--     reads_back         from the output's start
+--     compiled_reads     for the call's own definition, where its answer is a count of nodes
 use mathlib.Core.Path.{◌≡◌, refl, sym, ap, ap₂, subst, ◌∙◌}
 use mathlib.Core.Bool.{Bool, true, false, ◌&&◌}
 use mathlib.Core.Logic.{⊎_elim}
-use mathlib.Core.List.{List, [], ◌∷◌, ◌++◌}
+use mathlib.Core.List.{List, ◌∷◌, ◌++◌}
 use mathlib.Core.Option.{Option, none, some}
 use Prim.Native.Nat.{ℕ, zero, suc, ◌+◌, ◌-◌, ◌*◌, ◌≤◌, ◌<◌}
 use native.Mathlib.Omega.{arith}

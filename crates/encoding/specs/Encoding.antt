@@ -1,13 +1,13 @@
 -- Document 02, order 1 (`config_encoding` of src/mc/plan.rs): a configuration's bits are the state's, then the slots', then the monitors'.
---     stateBits       ceil(log2(count)), so 0 for counts 0 and 1
---     slotBits        the bits of slots, by their widths
---     slotFirst       the first bit of slot k
---     monitorsBase    the first bit of the monitors
---     monitorBits     the bits of the rules that compile, which crate plan gives by functions of their number
---     bytesFor        bits rounded up to whole bytes. `bytes_least` (proofs/Sums.antt): the fewest that hold so many bits
---     encodingOf      the numbers of a configuration
+--     state_bits_of       ceil(log2(count)), so 0 for counts 0 and 1
+--     slot_bits        the bits of slots, by their widths
+--     slot_first       the first bit of slot k
+--     monitors_base    the first bit of the monitors
+--     monitor_bits     the bits of the rules that compile, which crate plan gives by functions of their number
+--     bytes_for        bits rounded up to whole bytes. `bytes_least` (proofs/Sums.antt): the fewest that hold so many bits
+--     encoding_of      the numbers of a configuration
 --     opening         what a book may open with
-use Rattle.std.specs.Prelude.{Bool, ◌&&◌, List, [], ◌∷◌, ◌≡◌, ℕ, ◌+◌, ◌*◌, ◌/◌, ◌^◌, ◌≤◌, ◌<◌, leb, ltb, length, get_or, take}
+use Rattle.std.specs.Prelude.{Bool, ◌&&◌, List, ◌∷◌, ◌≡◌, ℕ, ◌+◌, ◌*◌, ◌/◌, ◌^◌, ◌≤◌, ◌<◌, leb, ltb, length, get_or, take}
 use Rattle.terms.specs.Limits.{book_slots, state_counts, slot_most}
 use Rattle.plan.specs.Width.{ceil_log2}
 use Rattle.plan.specs.Book.{bits_below}

@@ -1,6 +1,6 @@
 -- One step of the walks over a pure formula.
 use mathlib.Core.Path.{◌≡◌, refl, sym, ap, ap₂, subst, ◌∙◌}
-use mathlib.Core.Bool.{Bool, true, false, ◌&&◌, ◌||◌}
+use mathlib.Core.Bool.{Bool, true, false, ◌&&◌}
 use mathlib.Core.Bool as bool
 use mathlib.Core.List.{List}
 use mathlib.Core.Logic.{⊎_elim}

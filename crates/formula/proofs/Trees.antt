@@ -1,11 +1,11 @@
 -- A run of tokens reads as a tree in at most one way, and `tree_of` finds it.
 use mathlib.Core.Path.{◌≡◌, refl, sym, ap, ap₂, subst, ◌∙◌}
-use mathlib.Core.List.{List, [], ◌∷◌, ◌++◌, append_assoc, append-nil}
+use mathlib.Core.List.{List, ◌∷◌, ◌++◌, append_assoc, append-nil}
 use mathlib.Core.Option.{Option, none, some}
 use Prim.Native.Nat.{ℕ, zero, suc, ◌+◌, ◌-◌, ◌≤◌}
 use native.Mathlib.Omega.{arith}
 use native.Mathlib.Numerals.{one-add}
-use native.Mathlib.Nat.{suc-add, add-suc, add_assoc, add-zero}
+use native.Mathlib.Nat.{suc-add, add_assoc, add-zero}
 use lib.ListN.{length, length-append}
 use Rattle.formula.specs.Tree.{Tree, leaf, one, two, Token, leaf_of, one_of, two_of, unknown, size, prefix, push, forest, single, tree_of}
 use Rattle.formula.specs.Spells.{run, Spells, due, reach, nodes_at}

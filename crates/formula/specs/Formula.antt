@@ -1,5 +1,5 @@
 -- Document 01, "The book": the cases of a formula (`Formula` of src/lang/ir.rs), and the numbers that stand for them in a table.
-use Rattle.std.specs.Prelude.{List, [], ◌∷◌, ℕ, get_or}
+use Rattle.std.specs.Prelude.{List, ◌∷◌, ℕ, get_or}
 use Rattle.formula.specs.Tree.{Tree, Token, leaf_of, one_of, two_of, unknown}
 
 -- an atom: `var`, `in` or `out` with its signal
@@ -8,7 +8,7 @@ pub data Atom : Type 0 where
   input : ℕ → Atom
   output : ℕ → Atom
 
--- the words with one operand; `always_for` and `within` have a bound
+-- the words with one operand; `always-for` and `within` have a bound
 pub data Unary : Type 0 where
   not : Unary
   next : Unary

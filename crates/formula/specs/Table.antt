@@ -1,6 +1,6 @@
 -- A formula table: an operation and a number for each place. A rule is a part of it, a first place and a count.
---     nodeAt    the node at a place
---     ruleOf    the formula that a rule's part is, if it is one within the limits of document 01
+--     node_at    the node at a place
+--     rule_of    the formula that a rule's part is, if it is one within the limits of document 01
 -- That `rule_of` gives nothing is refusal 2 for a formula table: a part outside the table's first 1,024 places, an unknown operation, a part
 -- that is no prefix tree covering exactly its nodes, an atom above 63, more than 256 nodes or depth 64.
 use Rattle.std.specs.Prelude.{◌≡◌, Bool, true, false, ◌&&◌, List, ℕ, ◌+◌, ◌≤◌, leb, length, get_or}

@@ -8,7 +8,7 @@ use Rattle.stepping.specs.declared.call.Verdict.{Verdict}
 use Rattle.stepping.specs.declared.fresh.Outcome.{Outcome}
 use Rattle.node_step.specs.Memory.{entries}
 use Rattle.lent.specs.Lent.{LentTables, monitor_of}
-use Rattle.stepping.specs.Call.{Answers, result_of, verdict_of, step_call}
+use Rattle.stepping.specs.Call.{Answers, result_of, step_call}
 use Rattle.stepping.specs.Fresh.{FreshAnswers, outcome_of, fresh_call}
 use Rattle.stepping.proofs.Telling.{verdict_is, outcome_is}
 use Rattle.in_place.specs.declared.ReferenceMonitor.{ReferenceMonitor}

@@ -1,6 +1,5 @@
 -- The calls on a monitor struct: it is read as the lent monitor of crates/stepping, and each call is that crate's call on it.
 use Rattle.std.specs.Prelude.{ℕ}
-use Rattle.stepping.specs.declared.call.Verdict.{Verdict}
 use Rattle.stepping.specs.declared.fresh.Outcome.{Outcome}
 use Rattle.stepping.specs.declared.fresh.Outcome.TheVariants.{Made, Refused}
 use Rattle.node_step.specs.Memory.{Memory, entries}

@@ -1,10 +1,10 @@
 -- Demand 3, for the calls on a monitor struct in place and over node structs: each is the call on slices (`step_call`) on what the struct holds, so the laws of
 -- single calls on slices (`lawful`, crate reports) are its laws.
-use mathlib.Core.Bool.{Bool, true}
-use mathlib.Core.List.{List, [], ◌∷◌}
+use mathlib.Core.Bool.{Bool}
+use mathlib.Core.List.{List, ◌∷◌}
 use mathlib.Core.Option.{some}
 use mathlib.Core.Path.{◌≡◌, refl, sym, ap, subst, ◌∙◌}
-use Prim.Native.Nat.{ℕ, ◌≤◌, ◌<◌}
+use Prim.Native.Nat.{ℕ, ◌≤◌}
 use Rattle.result.specs.Result.{Result, given}
 use Rattle.formula.specs.Formula.{Formula}
 use Rattle.formula.specs.Table.{rule_of}
@@ -15,12 +15,11 @@ use Rattle.compiler.specs.Compiled.{compile_call}
 use Rattle.compiler_laws.proofs.ReadsBack.{compiled_reads}
 use Rattle.meaning.specs.Calls.{Call, accepted, step_all, step_count, Below}
 use Rattle.meaning.specs.Calls as calls
-use Rattle.meaning.specs.Demand.{Machine, Fair, Lent, Demand}
-use Rattle.meaning.specs.State.{State, initial_state}
+use Rattle.meaning.specs.State.{initial_state}
 use Rattle.meaning.proofs.Machines.{Lawful, meets}
 use Rattle.lent.specs.Lent.{LentTables, LentMonitor, HoldsRule, Ready, rule_mon, monitor_of}
 use Rattle.stepping.specs.Walk.{read_mon}
-use Rattle.stepping.specs.Call.{result_of, verdict_of, step_call}
+use Rattle.stepping.specs.Call.{result_of, step_call}
 use Rattle.stepping.specs.Fresh as Fresh
 use Rattle.stepping.specs.Fresh.{fresh_call, fresh_of, outcome_of}
 use Rattle.stepping.proofs.Starting.{fresh_state, fresh_ready}
@@ -28,13 +27,12 @@ use Rattle.stepping.proofs.Telling.{verdict_told, outcome_told}
 use Rattle.reports.specs.Calls as slices
 use Rattle.reports.specs.Calls.{step_event, calls_by, step_report, on_slices, compiled_tables, made_monitor}
 use Rattle.reports.proofs.Following.{lawful}
-use Rattle.reports.proofs.Demand.{MadeOf, made_of}
+use Rattle.reports.proofs.Demand.{made_of}
 use Rattle.in_place.specs.declared.ReferenceMonitor.{ReferenceMonitor}
 use Rattle.in_place.specs.InPlace.{memory_of, held_by, size_after, step_in, fresh_in}
-use Rattle.node_table.specs.declared.FormulaNode.{FormulaNode}
 use Rattle.node_table.specs.Node.{ops_of, nums_of}
 use Rattle.table_step.specs.Over.{tables_over}
-use Rattle.in_place_reports.specs.Calls.{ReadsAs, StepCall, in_place, DemandInPlace, TableCall, plain_call, on_tables, DemandOnTables}
+use Rattle.in_place_reports.specs.Calls.{ReadsAs, StepCall, in_place, DemandInPlace, plain_call, on_tables, DemandOnTables}
 
 -- ---- single calls
 module _ (e : StepCall) (k : ReferenceMonitor) where

@@ -1,10 +1,10 @@
 -- The calls on a monitor struct lent by `&mut` as machines (crate meaning, specs/Demand.antt), whose memory is the struct. The contracts of
 -- `in_place::step::step` and `step_table` are equality with `step_in`, of which the machines are made.
---     inPlace, DemandInPlace      the calls on plain tables: `compile_formula`, and `fresh` and `step` in place
---     onTables, DemandOnTables    the calls over node structs: `compile_table`, `fresh_table`, `step_table`
-use Rattle.std.specs.Prelude.{true, List, [], ◌∷◌, ◌≡◌, ℕ}
+--     in_place, DemandInPlace      the calls on plain tables: `compile_formula`, and `fresh` and `step` in place
+--     on_tables, DemandOnTables    the calls over node structs: `compile_table`, `fresh_table`, `step_table`
+use Rattle.std.specs.Prelude.{true, List, ◌∷◌, ◌≡◌, ℕ}
 use Rattle.std.proofs.Math.Option.{some}
-use Rattle.result.specs.Result.{Result, given}
+use Rattle.result.specs.Result.{given}
 use Rattle.formula.specs.Formula.{Formula}
 use Rattle.formula.specs.Table.{rule_of}
 use Rattle.monitor.specs.Mon.{Mon}

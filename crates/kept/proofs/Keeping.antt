@@ -1,12 +1,11 @@
 -- What each case of the code does, by the tests that led there.
-use mathlib.Core.Path.{◌≡◌, refl, sym, ap, ap₂, subst, ◌∙◌}
+use mathlib.Core.Path.{◌≡◌, refl, sym, ap, subst, ◌∙◌}
 use mathlib.Core.Bool.{Bool, true, false, ◌&&◌, cond}
-use mathlib.Core.List.{List, [], ◌∷◌}
+use mathlib.Core.List.{List, ◌∷◌}
 use Prim.Native.Nat.{ℕ, zero, suc, ◌+◌, ◌-◌, ◌*◌, ◌^◌, ◌≤◌, ◌<◌}
 use native.Mathlib.Omega.{arith}
 use lib.Dec.{leb, eqb}
 use lib.ListN.{length}
-use lib.IntN.{ℤ}
 use mir.Syntax.{w64}
 use mir.Val.{Fits}
 use borrow.Author.Tests.{lt-leb, le-leb}
@@ -19,7 +18,6 @@ use Rattle.monitor.specs.declared.node.Row.{Row}
 use Rattle.monitor.specs.declared.node.Row.TheVariants.{Node, Unknown}
 use Rattle.plan.specs.Width.{width}
 use Rattle.plan.proofs.Widths.{width_most}
-use Rattle.meaning.specs.Culprit.{minus_one}
 use Rattle.node_step.specs.declared.state.MonState.{MonState}
 use Rattle.bits.specs.Bits.{digits, number, spelled, ink_bit, ink_bits, Room}
 use Rattle.bits.proofs.Loops.{ink_length}

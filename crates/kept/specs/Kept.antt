@@ -1,12 +1,12 @@
 -- Document 02, order 3: a monitor's state in the bits of its layout (document 01, "Layout"), the rule's own first bit being bit 0.
 --     keeps        what each node keeps, in prefix order
---     stateBits    the bits of a state: of a delayed check its remembered antecedent; of an obligation from bound 1 pending, then remaining, lowest bit
+--     state_bits_of    the bits of a state: of a delayed check its remembered antecedent; of an obligation from bound 1 pending, then remaining, lowest bit
 --                  first, zero where nothing is pending
 --     spent        the root, an obligation or a delayed check is marked failed
---     entriesIn    the entries that bits say: no mark, and culprits of minus 1
+--     entries_in    the entries that bits say: no mark, and culprits of minus 1
 --     stored       bits that a state can have: a pending remaining from 1 to the bound, none without pending, unused bits zero
 -- `kept_bits_lem`, `kept_slot` (crate saving_laws, proofs/Slots.antt): these are the bits of crate plan's layout, each node's in its slot.
-use Rattle.std.specs.Prelude.{Bool, true, false, ◌&&◌, ◌||◌, cond, List, [], ◌∷◌, ◌++◌, ◌≡◌, ℕ, zero, suc, ◌+◌, ◌-◌, ◌*◌, ◌≤◌, eqb, leb, length, get_or}
+use Rattle.std.specs.Prelude.{Bool, true, false, ◌&&◌, ◌||◌, cond, List, ◌∷◌, ◌++◌, ◌≡◌, ℕ, zero, suc, ◌+◌, ◌-◌, ◌*◌, ◌≤◌, eqb, leb, length, get_or}
 use Rattle.terms.specs.Choice.{pick}
 use Rattle.monitor.specs.declared.node.MonNode.{MonNode}
 use Rattle.monitor.specs.declared.node.MonNode.TheVariants.{RangeCheck, DelayedCheck, Obligation, And as AndNode, Or as OrNode}

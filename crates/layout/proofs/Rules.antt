@@ -7,7 +7,7 @@ use Prim.Native.Nat.{ℕ, zero, suc, ◌+◌, ◌≤◌, ◌<◌}
 use borrow.Author.Tests.{le-leb, lt-leb, lt-ltb, le-ltb}
 use lib.Dec.{ltb}
 use lib.ListN.{length}
-use Rattle.result.specs.Result.{Result, given, refused, or_else}
+use Rattle.result.specs.Result.{given, refused, or_else}
 use Rattle.formula.specs.Table.{roomy, is_some}
 use Rattle.formula.proofs.Cases.{true_false}
 use Rattle.monitor.specs.Mon.{Mon}

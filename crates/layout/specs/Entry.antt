@@ -1,10 +1,10 @@
 -- What the layout calls answer for what they are lent, with refusals 1 and 2.
---     bitsResult, slotResult, laidResult    document 01's result of each answer enum
---     ruleBitsOf    the bits of a rule
---     nodeSlotOf    a node's own bits and where they begin, counted from the rule's first bit
+--     bits_result, slot_result, laid_result    document 01's result of each answer enum
+--     rule_bits_of    the bits of a rule
+--     node_slot_of    a node's own bits and where they begin, counted from the rule's first bit
 --     layout_of      a book: the numbers of the whole, and the outputs afterwards, which are the first bits and the bits of the rules and the
 --                   first bits of the slots
-use Rattle.std.specs.Prelude.{Bool, true, false, ◌&&◌, not, List, [], ◌∷◌, ◌≡◌, ℕ, ◌≤◌, ◌<◌, leb, ltb, eqb, length, get_or, take}
+use Rattle.std.specs.Prelude.{Bool, false, ◌&&◌, not, List, ◌∷◌, ◌≡◌, ℕ, ◌≤◌, ◌<◌, leb, ltb, eqb, length, get_or, take}
 use Rattle.std.proofs.Math.Option.{Option, none, some}
 use Rattle.std.proofs.lemmas.List.Edits.{sets}
 use Rattle.terms.specs.Limits.{book_nodes, book_rules, book_slots, state_counts, node_cells}

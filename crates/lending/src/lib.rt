@@ -1,5 +1,5 @@
 // The calls over a lent table of node structs and a lent monitor, for callers that hold both by value: each copies them to locals, lends the locals
-// for one call, and hands the monitor back. The borrow checker covers such callers, and none that lends a struct itself.
+// for one call, and hands the monitor back.
 #![tactic(auto)]
 
 ghost use Rattle.std.specs.Prelude.{◌≡◌};

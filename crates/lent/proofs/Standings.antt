@@ -3,22 +3,18 @@
 use mathlib.Core.Path.{◌≡◌, refl, sym, ap, ap₂, subst, ◌∙◌}
 use mathlib.Core.Bool.{Bool, true, false, ◌&&◌}
 use mathlib.Core.List.{List}
-use mathlib.Core.Logic.{⊎_elim}
 use mathlib.Core.Option.{Option, none, some}
 use Prim.Native.Nat.{ℕ, zero, suc, ◌+◌, ◌-◌, ◌*◌, ◌≤◌}
 use native.Mathlib.Omega.{arith}
 use native.Mathlib.Nat.{add-zero, zero-add}
 use lib.Dec.{eqb, leb}
 use lib.ListN.{length, get_or}
-use borrow.Author.Tests.{leb-true, le-leb, lt-ltb, le-ltb}
-use Rattle.terms.specs.Choice.{pick}
-use Rattle.formula.specs.Tree.{Tree, leaf, one, two, leaf_of, two_of, unknown, size, all}
+use borrow.Author.Tests.{leb-true, le-leb}
+use Rattle.formula.specs.Tree.{Tree, leaf, one, two, leaf_of, two_of, unknown, size}
 use Rattle.formula.specs.Spells.{Spells}
-use Rattle.formula.specs.Formula.{Formula, Atom}
-use Rattle.formula.specs.Table.{node_at, in_word, Rule, rule_of}
-use Rattle.formula.specs.Pure.{pure}
-use Rattle.formula.proofs.Cases.{below_or}
-use Rattle.formula.proofs.Trees.{some_inj, none_some}
+use Rattle.formula.specs.Formula.{Formula}
+use Rattle.formula.specs.Table.{Rule, rule_of}
+use Rattle.formula.proofs.Trees.{some_inj}
 use Rattle.formula.proofs.Rules.{rule_inv}
 use Rattle.formula.proofs.Walks.{both_true}
 use Rattle.monitor.specs.declared.node.SignalExpr.{SignalExpr}
@@ -27,7 +23,7 @@ use Rattle.monitor.specs.declared.node.MonNode.{MonNode}
 use Rattle.monitor.specs.declared.node.MonNode.TheVariants.{RangeCheck, DelayedCheck, Obligation, And as AndNode, Or as OrNode}
 use Rattle.monitor.specs.declared.node.Row.{Row}
 use Rattle.monitor.specs.declared.node.Row.TheVariants.{Node, Unknown}
-use Rattle.monitor.specs.Mon.{Signal, at, Check, range_check, delayed_check, obligation, Mon, check, And, Or, count, expr_of, node_of}
+use Rattle.monitor.specs.Mon.{Signal, Check, range_check, delayed_check, obligation, Mon, check, And, Or, count, expr_of, node_of}
 use Rattle.monitor.specs.Table.{row_of, signal_of, Never, Join, join_and, join_or, Cell, checked, cell_of, cell_by, cells, from_tree, compiled_of}
 use Rattle.monitor.proofs.Signals.{signal_inv}
 use Rattle.monitor.proofs.HeldTree.{held_inv}

@@ -2,7 +2,7 @@
 -- (refusal 2). Whether a monitor fits depends on the compiled rule, and not on the table that holds it.
 --     HoldsRule    tables that a call on a monitor of rule m may be lent
 --     Ready        a monitor that a call over such tables takes, below 2^63
---     refusalOf    1, then 2, of what a call on a monitor is lent
+--     refusal_of    1, then 2, of what a call on a monitor is lent
 use Rattle.std.specs.Prelude.{Bool, true, ◌&&◌, List, ◌≡◌, ℕ, ◌+◌, ◌*◌, ◌≤◌, eqb, leb, length}
 use Rattle.std.proofs.Math.Option.{Option, none, some}
 use Rattle.terms.specs.Choice.{pick}

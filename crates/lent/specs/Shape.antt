@@ -1,8 +1,8 @@
 -- Document 01, refusal 2, for a monitor: a state whose form or bound is not its node's, a culprit below minus 1 or, on a range or delayed
 -- check, other than minus 1, a pending, unfailed obligation with remaining outside 1 to its bound.
---     entryFits    one entry against its node
---     fitsMon      the entries from k on against the nodes of a compiled rule: the definition of the refusal
---     shapedFrom   the same over the rows of a node table, which is how the loop goes (`rows_fit_lem`, proofs/Standings.antt: they agree)
+--     entry_fits    one entry against its node
+--     fits_mon      the entries from k on against the nodes of a compiled rule: the definition of the refusal
+--     shaped_from   the same over the rows of a node table, which is how the loop goes (`rows_fit_lem`, proofs/Standings.antt: they agree)
 use Rattle.std.specs.Prelude.{Bool, true, false, ◌&&◌, ◌||◌, List, ℕ, zero, suc, ◌+◌, eqb, leb, ℤ, pos, negsuc, get_or}
 use Rattle.std.proofs.Math.Bool as bool
 use Rattle.terms.specs.Forms.{range_form, delayed_form, obligation_form, and_form, or_form}

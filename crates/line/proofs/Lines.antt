@@ -1,13 +1,13 @@
 -- What a line holds, from the code's tests: one law for each return.
 use mathlib.Core.Path.{◌≡◌, refl, sym, ap, subst, ◌∙◌}
 use mathlib.Core.Bool.{Bool, true, false}
-use mathlib.Core.List.{List, [], ◌∷◌}
+use mathlib.Core.List.{List, ◌∷◌}
 use Prim.Native.Nat.{ℕ, zero, suc, ◌+◌, ◌-◌, ◌≤◌, ◌<◌}
 use native.Mathlib.Omega.{arith}
 use native.Mathlib.Numerals.{add-one}
 use borrow.Author.Tests.{eq-eqb, ne_eqb, lt-ltb, le-ltb, le-leb, lt-leb, ltb-true, ltb-false}
 use lib.Dec.{ltb}
-use lib.ListN.{length, take, drop, length-take, length-drop}
+use lib.ListN.{length, take, drop, length-drop}
 use Rattle.terms.specs.Limits.{signals, slot_most, state_counts, steps}
 use Rattle.terms.specs.Kinds.{property_kind, assumption_kind, kinds}
 use Rattle.number.specs.Number.{decimal_of, hex_of}
@@ -18,7 +18,7 @@ use Rattle.words.specs.Same.{eqbs}
 use Rattle.words.specs.Word.{word_of}
 use Rattle.line.specs.Text.{parts, fields, first_at, Found}
 use Rattle.line.specs.Line as spec
-use Rattle.line.specs.Line.{is_label, kind_of, rule_kind, rule_line, atom_line, bound_line, step_line, states_line, width_line, slot_line, no_field, one_field, two_fields, content, of_fields, parse, flaw_number}
+use Rattle.line.specs.Line.{is_label, kind_of, rule_kind, rule_line, atom_line, bound_line, step_line, states_line, width_line, slot_line, no_field, one_field, two_fields, content, of_fields, parse}
 use Rattle.line.specs.Means.{held, sort_in, means, Meant, LineIs, Anywhere, FieldAt, ReadAs, behind, Tail, count_of}
 use Rattle.words.specs.declared.word.Word.{Word}
 use Rattle.words.specs.declared.word.Word.TheVariants as word

@@ -1,8 +1,7 @@
 -- The lines of the rules.
-use mathlib.Core.Bool.{true}
-use mathlib.Core.List.{List, [], ◌∷◌, ◌++◌}
-use mathlib.Core.Path.{◌≡◌, refl, sym, ap, subst, ◌∙◌}
-use Prim.Native.Nat.{ℕ, suc, ◌+◌, ◌-◌, ◌*◌, ◌^◌, ◌≤◌, ◌<◌}
+use mathlib.Core.List.{List}
+use mathlib.Core.Path.{◌≡◌, sym, ap, subst, ◌∙◌}
+use Prim.Native.Nat.{ℕ, ◌+◌, ◌-◌, ◌*◌, ◌^◌, ◌≤◌, ◌<◌}
 use native.Mathlib.Omega.{arith}
 use native.Mathlib.Numerals.{add-one}
 use lib.ListN.{length, get_or, take, drop}
@@ -12,7 +11,7 @@ use Rattle.text.specs.Tape.{Tape, Wrote}
 use Rattle.text.proofs.Tapes.{as_text, nothing, then}
 use Rattle.listing_line.specs.declared.rule.Compiling.{Compiling}
 use Rattle.listing_rules.specs.Rules.{Rule, bits_of, first_bit_of, like_of, first_below, compiling_of}
-use Rattle.listing_rules.specs.Tabled.{Held, Tabled, Placed}
+use Rattle.listing_rules.specs.Tabled.{Tabled}
 use Rattle.listing_rules.specs.Made.{FilledRules}
 use Rattle.listing_rules.specs.Answers.{Placeable, Places, Tellable, ToldRule}
 use Rattle.listing_head.specs.Head.{upto, section_text, rule_text, rules_text}

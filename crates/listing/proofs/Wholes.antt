@@ -1,18 +1,16 @@
 -- A whole book: what reading it leaves is what its rules are listed from, and the listing stands in front of the output.
-use mathlib.Core.Bool.{Bool, true, false}
-use mathlib.Core.List.{List, [], ◌∷◌, ◌++◌}
+use mathlib.Core.List.{List, ◌++◌}
 use mathlib.Core.Path.{◌≡◌, refl, sym, ap, ap₂, subst, ◌∙◌}
-use Prim.Native.Nat.{ℕ, ◌+◌, ◌*◌, ◌^◌, ◌≤◌, ◌<◌}
+use Prim.Native.Nat.{ℕ, ◌+◌, ◌^◌, ◌≤◌, ◌<◌}
 use native.Mathlib.Omega.{arith}
 use borrow.Author.Tests.{le-leb, lt-leb}
-use lib.Dec.{leb}
-use lib.ListN.{length, get_or, take, drop, length-append, length-drop, take-append-drop}
+use lib.ListN.{length, take, drop, length-append, length-drop, take-append-drop}
 use mir.Syntax.{w64}
 use mir.Val.{Fits}
 use Rattle.terms.specs.Limits.{state_counts}
 use Rattle.encoding.specs.Encoding.{monitors_base, Widths, StateSum, SlotSum}
 use Rattle.encoding.specs.declared.ConfigEncoding.{ConfigEncoding}
-use Rattle.book.specs.Book.{Book, count_in}
+use Rattle.book.specs.Book.{count_in}
 use Rattle.book.specs.declared.state.States.{States}
 use Rattle.reader.specs.BookTables.{BookTables, SlotTables, columns, slot_columns}
 use Rattle.reader.specs.Answer.{Reads}
@@ -24,10 +22,9 @@ use Rattle.listing_line.specs.Plan.{plan_line}
 use Rattle.listing_rules.specs.Rules.{Rule, encoding_for}
 use Rattle.listing_rules.specs.Answers.{Encodable, Encodes}
 use Rattle.listing_head.specs.Head.{rules_text}
-use Rattle.listing_rules.specs.Tabled.{Held, Tabled, Placed}
+use Rattle.listing_rules.specs.Tabled.{Tabled}
 use Rattle.listing_reports.specs.Tail.{refused_line, end_line}
 use Rattle.listing_text.specs.Listing.{listing, rule_at, rules_listing}
-use Rattle.listing_size.specs.Room.{listing_room}
 use Rattle.listing_size.proofs.ListingFits.{listing_fits}
 use Rattle.reader.proofs.Runs.{accepted_short}
 use Rattle.listing_size.specs.Handed.{Handed, HandedOpening, AnswerHands}
@@ -36,11 +33,10 @@ use Rattle.listing_steps.specs.Holding.{Rows}
 use Rattle.listing_steps.specs.Stepped.{StepsDue, StepsReported}
 use Rattle.listing_steps.proofs.Start.{tabled_rows}
 use Rattle.result.specs.Result.{given}
-use Rattle.listing.specs.declared.whole.Listed.{Listed}
 use Rattle.listing.specs.declared.whole.Listed.TheVariants.{Text, Refused}
 use Rattle.listing.specs.Whole.{KnownBook, HeadListed, Compiled, TailListed}
 use Rattle.listing.specs.LentLists.{HoldsRules}
-use Rattle.listing.specs.Lists.{Call, or_short, list_call, Answers, Within}
+use Rattle.listing.specs.Lists.{list_call, Answers}
 
 -- ---- the entry point
 pub list_short : (text out : List ℕ) → length out < 262144 → Answers (list_call text out) (Refused 1) out

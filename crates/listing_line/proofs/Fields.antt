@@ -1,10 +1,10 @@
 -- Lines field by field.
-use mathlib.Core.Path.{◌≡◌, refl, sym, ap, subst, ◌∙◌}
-use mathlib.Core.List.{List, [], ◌∷◌, ◌++◌, append_assoc}
+use mathlib.Core.Path.{◌≡◌, refl, sym, ap, ◌∙◌}
+use mathlib.Core.List.{List, ◌∷◌, ◌++◌, append_assoc}
 use Prim.Native.Nat.{ℕ}
 use Rattle.text.specs.Tape.{Tape, Wrote}
 use Rattle.text.proofs.Tapes.{as_text, then, nothing}
-use Rattle.listing_line.specs.Line.{line, tabbed, marked, absent}
+use Rattle.listing_line.specs.Line.{line, tabbed, marked}
 
 -- a text, and the mark behind it
 pub mark_then : (a b c : Tape) (s : List ℕ) (mark : ℕ) → Wrote a s b → Wrote b (mark ∷ []) c → Wrote a (marked s mark) c

@@ -1,10 +1,9 @@
 -- The `node` line, from what the code writes one behind the other.
 use mathlib.Core.Path.{◌≡◌, refl, sym, ap, subst, ◌∙◌}
 use mathlib.Core.Bool.{false}
-use mathlib.Core.List.{List, [], ◌∷◌, ◌++◌, append_assoc}
+use mathlib.Core.List.{List, ◌∷◌}
 use Prim.Native.Nat.{ℕ}
 use native.Mathlib.Omega.{arith}
-use Rattle.formula.specs.Formula.{Formula}
 use Rattle.formula.specs.Spells.{Spells}
 use Rattle.formula.specs.Table.{node_at}
 use Rattle.monitor.specs.declared.range.End.{End}

@@ -1,8 +1,7 @@
 -- The `rule` line, from what the code writes one behind the other.
-use mathlib.Core.Path.{◌≡◌, refl, sym, ap, subst, ◌∙◌}
-use mathlib.Core.List.{List, [], ◌∷◌, ◌++◌}
+use mathlib.Core.Path.{◌≡◌, refl, ap}
+use mathlib.Core.List.{List, ◌∷◌}
 use Prim.Native.Nat.{ℕ, zero, suc}
-use native.Mathlib.Omega.{arith}
 use Rattle.number.specs.Digits.{digits, decimal}
 use Rattle.line.specs.Line.{kind_byte}
 use Rattle.text.specs.Tape.{Tape, Wrote}
@@ -13,7 +12,7 @@ use Rattle.listing_line.specs.declared.rule.Alike.{Alike}
 use Rattle.listing_line.specs.declared.rule.Alike.TheVariants.{To, Nothing}
 use Rattle.listing_line.specs.declared.rule.Compiling.{Compiling}
 use Rattle.listing_line.specs.declared.rule.Compiling.TheVariants.{Compiled, Refused}
-use Rattle.listing_line.proofs.Fields.{more, done, tab_more, tab_done, group}
+use Rattle.listing_line.proofs.Fields.{more, done, group}
 
 pub alike_to : (a b : Tape) (x : Alike) (n : ℕ) → x ≡ To n → Wrote a (marked (decimal n) 10) b → Wrote a (marked (alike_text x) 10) b
 alike_to a b x n e w = as_text a b (ap (λ (y : Alike). marked (alike_text y) 10) e) w

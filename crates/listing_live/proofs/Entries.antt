@@ -1,25 +1,22 @@
 -- What each entry adds to a skeleton's text, and the text of a whole skeleton.
-use mathlib.Core.Path.{◌≡◌, refl, sym, ap, ap₂, subst, ◌∙◌}
-use mathlib.Core.Bool.{Bool, true, false}
-use mathlib.Core.List.{List, [], ◌∷◌, ◌++◌, append_assoc}
+use mathlib.Core.Path.{◌≡◌, refl, sym, ap, ap₂, ◌∙◌}
+use mathlib.Core.Bool.{true}
+use mathlib.Core.List.{List, ◌∷◌, ◌++◌, append_assoc}
 use Prim.Native.Nat.{ℕ, zero, suc, ◌+◌, ◌-◌, ◌*◌, ◌≤◌, ◌<◌}
 use native.Mathlib.Omega.{arith}
 use native.Mathlib.Numerals.{add-one, one-add}
-use native.Mathlib.Nat.{add-zero, suc-add, add_assoc}
 use borrow.Author.Tests.{lt-ltb, le-ltb}
 use lib.ListN.{length, get_or, drop}
 use lib.Seq.{get_or-drop}
-use Rattle.formula.specs.Tree.{leaf_of}
-use Rattle.formula.specs.Formula.{Node, node, Atom}
+use Rattle.formula.specs.Formula.{Node, node}
 use Rattle.formula.specs.Table.{node_at}
-use Rattle.formula.specs.Text.{atom, sign}
 use Rattle.liveness.specs.Split.{Skeleton, safety, owed, Not, And, Or, Implies}
-use Rattle.liveness.specs.Text.{Mark, written, number, skeleton_text}
+use Rattle.liveness.specs.Text.{Mark, skeleton_text}
 use Rattle.split.specs.Held.{entries, skeleton_cells}
 use Rattle.number.specs.Digits.{decimal}
-use Rattle.text.specs.Tape.{Tape, tape, Wrote}
+use Rattle.text.specs.Tape.{Tape, Wrote}
 use Rattle.text.proofs.Tapes.{as_text, append-nil, nothing, then}
-use Rattle.spelling.specs.Spelling.{spell, spelled}
+use Rattle.spelling.specs.Spelling.{spelled}
 use Rattle.spelling.specs.Scan.{node_text}
 use Rattle.listing_live.specs.Live.{mark_text, marks_text}
 use Rattle.listing_live.specs.Entry.{entry_text, entries_text, EntryIn, EntriesIn, SkeletonStands}

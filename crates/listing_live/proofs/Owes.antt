@@ -1,21 +1,20 @@
 -- The `owe` line, from what the code writes one behind the other.
-use mathlib.Core.Path.{◌≡◌, refl, sym, ap, subst, ◌∙◌}
+use mathlib.Core.Path.{◌≡◌, sym, subst}
 use mathlib.Core.Bool.{true}
-use mathlib.Core.List.{List, [], ◌∷◌, ◌++◌}
+use mathlib.Core.List.{List, ◌∷◌}
 use Prim.Native.Nat.{ℕ, ◌≤◌, ◌<◌}
 use native.Mathlib.Omega.{arith}
-use Rattle.formula.specs.Formula.{Formula}
 use Rattle.formula.specs.Spells.{Spells}
 use Rattle.formula.specs.Table.{node_at}
 use Rattle.liveness.specs.Split.{Obligation, E, U}
 use Rattle.split.specs.Held.{obligation_cells}
 use Rattle.number.specs.Digits.{decimal}
 use Rattle.text.specs.Tape.{Tape, Wrote}
-use Rattle.text.proofs.Tapes.{as_text, then}
+use Rattle.text.proofs.Tapes.{then}
 use Rattle.spelling.specs.Spelling.{operand_text}
 use Rattle.spelling.specs.Scan.{Pure, Spelled}
-use Rattle.listing_line.specs.Line.{line, tabbed, marked}
-use Rattle.listing_line.proofs.Fields.{more, done, tab_more, tab_done, group}
+use Rattle.listing_line.specs.Line.{tabbed}
+use Rattle.listing_line.proofs.Fields.{more, done, group}
 use Rattle.listing_live.specs.Live.{owe_word, owe_line}
 use Rattle.listing_live.specs.Entry.{OweReady, OweStands, OweWrote, OperandWrote}
 

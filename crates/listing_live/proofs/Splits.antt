@@ -1,24 +1,24 @@
 -- From a split's output to its lines: the skeleton that crate split leaves in lent memory is what the `live` line is written from.
---     formula-stands    the skeleton of a formula in the table stands there
---     live-answer       the line written from the output is document 01's line of the answer
---     answer-ready      what `put_live` asks holds of the output
-use mathlib.Core.Path.{◌≡◌, refl, sym, ap, ap₂, subst, ◌∙◌}
-use mathlib.Core.List.{List, [], ◌∷◌, ◌++◌, append_assoc}
+--     formula_stands    the skeleton of a formula in the table stands there
+--     live_answer       the line written from the output is document 01's line of the answer
+--     answer_ready      what `put_live` asks holds of the output
+use mathlib.Core.Path.{◌≡◌, sym, ap, subst, ◌∙◌}
+use mathlib.Core.List.{List, ◌∷◌, ◌++◌, append_assoc}
 use Prim.Native.Nat.{ℕ, zero, suc, ◌+◌, ◌-◌, ◌*◌, ◌≤◌, ◌<◌}
 use mathlib.Core.Logic.{⊎_elim}
 use native.Mathlib.Omega.{arith}
 use native.Mathlib.Nat.{add-zero}
-use lib.ListN.{length, get_or, take, drop, length-append}
+use lib.ListN.{length, get_or, drop, length-append}
 use lib.Seq.{sets, sets-eq, get_or-append-add}
 use Rattle.terms.specs.Ops.{words}
-use Rattle.formula.specs.Tree.{leaf, one, two, leaf_of, size}
+use Rattle.formula.specs.Tree.{leaf, one, two, size}
 use Rattle.formula.specs.Spells.{Spells}
 use Rattle.formula.specs.Formula.{Formula, not, next, always, eventually, always_for, within, and, or, implies, until}
 use Rattle.formula.specs.Table.{node_at}
 use Rattle.formula.proofs.Cases.{below_or}
-use Rattle.liveness.specs.Split.{Obligation, Skeleton, safety, owed, Not, And, Or, Implies, skeleton_of, obligations_of, owes, Answer, none, parts, refused}
+use Rattle.liveness.specs.Split.{Skeleton, safety, owed, Not, And, Or, Implies, skeleton_of, owes, Answer, none, parts, refused}
 use Rattle.liveness.specs.Text.{skeleton_text}
-use Rattle.split.specs.Held.{entries, skeleton_cells, result_of, Outcome, outcome, held}
+use Rattle.split.specs.Held.{entries, skeleton_cells, outcome, held}
 use Rattle.split.proofs.Cells.{cells_length}
 use Rattle.split.specs.declared.parts.Liveness.{Liveness}
 use Rattle.split.proofs.Splits.{result_inj}

@@ -1,8 +1,8 @@
 -- A skeleton's text, entry by entry from left to right (the entries of crate split: two numbers each).
---     entryText      what an entry adds to the text
---     entriesText    what the first n entries add
+--     entry_text      what an entry adds to the text
+--     entries_text    what the first n entries add
 -- `entries_text_lem` (proofs/Entries.antt): over the cells of a skeleton that stands in the table this is the skeleton's text.
-use Rattle.std.specs.Prelude.{◌≡◌, true, List, [], ◌∷◌, ◌++◌, ℕ, zero, suc, ◌+◌, ◌*◌, ◌≤◌, ◌<◌, ltb, length, get_or, drop}
+use Rattle.std.specs.Prelude.{◌≡◌, true, List, ◌∷◌, ◌++◌, ℕ, zero, suc, ◌+◌, ◌*◌, ◌≤◌, ◌<◌, ltb, length, get_or, drop}
 use Rattle.terms.specs.Choice.{pick}
 use Rattle.terms.specs.Ops.{words}
 use Rattle.formula.specs.Tree.{leaf_of}

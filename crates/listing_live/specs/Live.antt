@@ -1,10 +1,9 @@
 -- Document 01, "The listing": `live`, `none` or 0 or refusal, skeleton; then `owe` lines: index, E with one operand or U with two. Absent is `-`.
-use Rattle.std.specs.Prelude.{List, [], ◌∷◌, ◌++◌, ℕ, ◌+◌}
-use Rattle.liveness.specs.Split.{Obligation, E, U, Skeleton, Answer, none, parts, refused}
-use Rattle.liveness.specs.Text.{Mark, written, number, skeleton_text, letter, operand_texts}
-use Rattle.formula.specs.Text.{Sign}
+use Rattle.std.specs.Prelude.{List, ◌∷◌, ◌++◌, ℕ, ◌+◌}
+use Rattle.liveness.specs.Split.{Obligation, E, U, Answer, none, parts, refused}
+use Rattle.liveness.specs.Text.{Mark, written, number, skeleton_text}
 use Rattle.number.specs.Digits.{decimal}
-use Rattle.spelling.specs.Spelling.{spell, spelled, operand_text}
+use Rattle.spelling.specs.Spelling.{spell, operand_text}
 use Rattle.listing_line.specs.Line.{line, absent}
 
 abbrev pub mark_text : Mark → List ℕ

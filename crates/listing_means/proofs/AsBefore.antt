@@ -1,11 +1,11 @@
 -- EVERY OLD BOOK LISTS AS IT DID, WITH `plan` PUT IN.
 use mathlib.Core.Path.{◌≡◌, refl, sym, ap, ap₂, subst, ◌∙◌}
-use mathlib.Core.List.{List, [], ◌++◌}
+use mathlib.Core.List.{List, ◌++◌}
 use Prim.Native.Nat.{ℕ, ◌+◌}
 use lib.ListN.{length}
 use Rattle.plan.specs.Width.{first_power, ceil_log2}
 use Rattle.encoding.specs.Encoding.{slot_bits, monitors_base}
-use Rattle.book.specs.Book.{Book, count_in, Outcome, accepted, refused, read}
+use Rattle.book.specs.Book.{Book, count_in, Outcome, accepted, refused}
 use Rattle.book.specs.declared.state.States.{States}
 use Rattle.book_laws.specs.Before.{read_before, NoOpening, Unopened}
 use Rattle.book_laws.proofs.AsBefore.{reads_as_before, accepted_as_before}
@@ -13,7 +13,7 @@ use Rattle.listing_line.specs.Plan.{plan_line}
 use Rattle.listing_rules.specs.Rules.{encoding_for}
 use Rattle.listing_head.specs.Head.{rules_text}
 use Rattle.listing_text.specs.Listing.{rule_at, rules_listing, listing_of, listing}
-use Rattle.listing_means.specs.AsBefore.{head_before, tail_before, lists_before, PlanPutIn, ListsAsBefore}
+use Rattle.listing_means.specs.AsBefore.{tail_before, ListsAsBefore}
 
 no_base : monitors_base 0 [] ≡ 0
 unfolding ceil_log2 first_power slot_bits

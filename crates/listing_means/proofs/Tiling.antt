@@ -1,6 +1,5 @@
 -- IN EVERY LISTING THE BITS TILE: no two parts of a book overlap, none is invented, and nothing lies between them.
 use mathlib.Core.Path.{refl}
-use lib.ListN.{length}
 use Rattle.encoding.proofs.Spans.{encoding_tiles}
 use Rattle.book.specs.Book.{Book, count_in}
 use Rattle.listing_rules.specs.Rules.{first_bit_of, encoding_for}

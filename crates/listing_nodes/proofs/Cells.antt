@@ -1,41 +1,32 @@
 -- A row's line, and the lines of all rows of a compiled rule.
 use mathlib.Core.Path.{◌≡◌, refl, sym, ap, ap₂, subst, ◌∙◌}
-use mathlib.Core.Bool.{Bool, true, false}
-use mathlib.Core.List.{List, [], ◌∷◌, ◌++◌, append_assoc}
-use mathlib.Core.Logic.{⊎_elim}
+use mathlib.Core.List.{List, ◌∷◌, ◌++◌}
 use mathlib.Core.Option.{Option, none, some}
 use Prim.Native.Nat.{ℕ, zero, suc, ◌+◌, ◌-◌, ◌*◌, ◌≤◌, ◌<◌}
 use native.Mathlib.Omega.{arith}
 use native.Mathlib.Numerals.{add-one}
-use native.Mathlib.Nat.{add-zero, add_assoc}
-use borrow.Author.Tests.{leb-true}
-use lib.Dec.{leb}
-use lib.ListN.{length, length-append}
+use native.Mathlib.Nat.{add-zero}
+use lib.ListN.{length}
 use Rattle.formula.specs.Tree.{Tree, leaf, one, two, Token, leaf_of, one_of, two_of, unknown, size, prefix}
-use Rattle.formula.specs.Spells.{run, Spells}
+use Rattle.formula.specs.Spells.{run}
 use Rattle.formula.specs.Formula.{Formula}
-use Rattle.formula.specs.Table.{node_at, Rule, Placed, rule_of}
-use Rattle.formula.specs.Pure.{pure}
-use Rattle.formula.proofs.Cases.{below_or}
-use Rattle.formula.proofs.Trees.{some_inj, none_some, prefix_length, spells_run, size_pos}
+use Rattle.formula.specs.Table.{Rule, rule_of}
+use Rattle.formula.proofs.Trees.{some_inj, prefix_length, spells_run}
 use Rattle.formula.proofs.Nodes.{known_at}
 use Rattle.formula.proofs.Rules.{rule_inv}
-use Rattle.monitor.specs.declared.range.AnchorRange.{AnchorRange}
 use Rattle.monitor.specs.declared.node.SignalExpr.{SignalExpr}
 use Rattle.monitor.specs.declared.node.SignalExpr.TheVariants.{True, At}
 use Rattle.monitor.specs.declared.node.MonNode.{MonNode}
 use Rattle.monitor.specs.declared.node.MonNode.TheVariants.{RangeCheck, DelayedCheck, Obligation, And as AndNode, Or as OrNode}
 use Rattle.monitor.specs.declared.node.Row.{Row}
 use Rattle.monitor.specs.declared.node.Row.TheVariants.{Node, Unknown}
-use Rattle.monitor.specs.Mon.{Signal, always_true, at, Check, range_check, delayed_check, obligation, Mon, check, And, Or, count, expr_of, node_of}
+use Rattle.monitor.specs.Mon.{Signal, always_true, Check, range_check, delayed_check, obligation, Mon, count, expr_of}
 use Rattle.monitor.specs.Table.{row_of, signal_of, Never, Join, join_and, join_or, Cell, checked, cell_of, cell_by, cells, from_tree, compiled_of}
 use Rattle.monitor.proofs.Signals.{signal_inv}
-use Rattle.monitor.proofs.HeldTree.{HoldsTree, held_inv}
-use Rattle.number.specs.Digits.{decimal}
+use Rattle.monitor.proofs.HeldTree.{held_inv}
 use Rattle.text.specs.Tape.{Tape, Wrote, joined}
 use Rattle.text.proofs.Tapes.{as_text, append-nil, joined_append, nothing, then}
-use Rattle.spelling.specs.Scan.{Pure}
-use Rattle.listing_line.specs.Node.{check_fields, join_fields, line_of, node_lines, cell_line, SignalReady, NodeReady, SignalStands, CheckStands, NodeWrote}
+use Rattle.listing_line.specs.Node.{join_fields, line_of, node_lines, cell_line, SignalReady, NodeReady, SignalStands, NodeWrote}
 use Rattle.listing_nodes.specs.Rows.{cell_lines, Compiled, NodesWrote}
 
 -- ---- the tokens of a tree are known

@@ -1,6 +1,6 @@
 -- The `report`, `end` and `refused` lines, from what the code writes one behind the other.
 use mathlib.Core.Path.{ap, ap₂, subst, ◌∙◌}
-use mathlib.Core.List.{List, [], ◌∷◌, ◌++◌}
+use mathlib.Core.List.{List, ◌∷◌, ◌++◌}
 use Prim.Native.Nat.{ℕ}
 use mir.Syntax.{w64}
 use mir.Val.{SFits, to_z, of_z}
@@ -10,7 +10,7 @@ use Rattle.number.specs.Digits.{decimal}
 use Rattle.text.specs.Tape.{Tape, Wrote, signed}
 use Rattle.text.proofs.Tapes.{as_text, then}
 use Rattle.listing_line.specs.Line.{line, tabbed, marked}
-use Rattle.listing_line.proofs.Fields.{more, done, tab_more, tab_done, group}
+use Rattle.listing_line.proofs.Fields.{more, done, group}
 use Rattle.listing_reports.specs.Tail.{report_word, report_line, end_line, refused_line}
 use Rattle.listing_report.specs.Written.{ReportWrote}
 

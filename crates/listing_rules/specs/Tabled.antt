@@ -2,7 +2,7 @@
 --     Held      the rule list and the formula table hold the rules
 --     Tabled    besides, one node table holds the compiled rules one behind the other
 --     Placed    besides, first bits and bits stand in their lists, the monitors beginning at bit `base`
-use Rattle.std.specs.Prelude.{Bool, true, List, ◌≡◌, ℕ, ◌+◌, ◌*◌, ◌≤◌, ◌<◌, length, get_or}
+use Rattle.std.specs.Prelude.{true, List, ◌≡◌, ℕ, ◌+◌, ◌≤◌, ◌<◌, length, get_or}
 use Rattle.std.proofs.Math.Option.{some}
 use Rattle.terms.specs.Limits.{book_nodes, book_rules}
 use Rattle.formula.specs.Table.{rule_of}

@@ -1,24 +1,22 @@
 -- The lines of a rule, one after the other.
-use mathlib.Core.Bool.{Bool, true, false, ◌&&◌}
+use mathlib.Core.Bool.{Bool, true, false}
 use mathlib.Core.Bool as bool
-use mathlib.Core.List.{List, [], ◌∷◌, ◌++◌}
-use mathlib.Core.Option.{Option, none, some}
+use mathlib.Core.List.{List, ◌∷◌, ◌++◌}
+use mathlib.Core.Option.{some}
 use mathlib.Core.Path.{◌≡◌, refl, sym, ap, subst, ◌∙◌}
-use Prim.Native.Nat.{ℕ, ◌+◌, ◌*◌, ◌≤◌, ◌<◌}
+use Prim.Native.Nat.{ℕ, ◌+◌, ◌*◌, ◌≤◌}
 use native.Mathlib.Omega.{arith}
 use borrow.Author.Tests.{le-leb, eq-eqb, ne_eqb}
-use lib.Dec.{eqb, leb}
+use lib.Dec.{eqb}
 use lib.ListN.{length, drop}
 use lib.Seq.{sets}
 use Rattle.terms.specs.Choice.{pick}
-use Rattle.formula.specs.Tree.{size}
 use Rattle.formula.specs.Formula.{Formula}
-use Rattle.formula.specs.Table.{rule_of, roomy, Rule as RuleAt}
+use Rattle.formula.specs.Table.{rule_of, Rule as RuleAt}
 use Rattle.formula.proofs.Rules.{rule_inv}
 use Rattle.formula.proofs.Trees.{some_inj}
-use Rattle.monitor.specs.Table.{compiled_of}
 use Rattle.liveness.specs.Split.{Answer, none as no_split, parts, refused, faults, first_or, live, split_of, property, skeleton_of, obligations_of, Obligation}
-use Rattle.split.specs.Held.{Outcome, outcome, held, entries, skeleton_cells, owed_cells, splitting, answer_of, roomy_split}
+use Rattle.split.specs.Held.{outcome, held, owed_cells, splitting}
 use Rattle.split.specs.declared.parts.Liveness.{Liveness}
 use Rattle.split.specs.declared.parts.Liveness.TheVariants.{None, Parts, Refused as SplitRefused}
 use Rattle.split.proofs.Cells.{entries_most, owes_most_lem}

@@ -6,9 +6,9 @@ use Rattle.terms.specs.Choice.{pick}
 use Rattle.formula.specs.Formula.{Formula}
 use Rattle.formula.specs.Table.{rule_of}
 use Rattle.monitor.specs.Table.{compiled_of}
-use Rattle.liveness.specs.Split.{Answer, Obligation, split_of}
+use Rattle.liveness.specs.Split.{Answer, split_of}
 use Rattle.split.specs.declared.parts.Liveness.{Liveness}
-use Rattle.split.specs.Held.{Outcome, outcome, held}
+use Rattle.split.specs.Held.{outcome, held}
 use Rattle.text.specs.Tape.{Tape, Wrote, joined}
 use Rattle.listing_line.specs.declared.rule.Alike.{Alike}
 use Rattle.listing_line.specs.declared.rule.Compiling.{Compiling}

@@ -1,10 +1,10 @@
 -- WHAT AN ACCEPTED BOOK HANDS TO THE LISTING.
---     book-rules, book-size     each rule is a formula within the limits, of as many nodes as its count
---     book-label, book-kind     its label has at most 32 bytes, its kind is 0 or 1
---     book-next, book-inside    the rules stand one behind the other in the formula table
---     book-held, label-held     in the tables that reading leaves, the rule list and the formula table hold the rules and their labels
+--     book_rules, book_size     each rule is a formula within the limits, of as many nodes as its count
+--     book_label, book_kind     its label has at most 32 bytes, its kind is 0 or 1
+--     book_next, book_inside    the rules stand one behind the other in the formula table
+--     book_held, label_held     in the tables that reading leaves, the rule list and the formula table hold the rules and their labels
 use mathlib.Core.Path.{◌≡◌, sym, ap, ap₂, ◌∙◌}
-use mathlib.Core.List.{List, [], ◌∷◌, ◌++◌, map, append_assoc, append-nil}
+use mathlib.Core.List.{List, ◌∷◌, ◌++◌, map, append_assoc, append-nil}
 use mathlib.Core.Option.{some}
 use Prim.Native.Nat.{ℕ, zero, suc, ◌+◌, ◌*◌, ◌≤◌, ◌<◌}
 use native.Mathlib.Omega.{arith}

@@ -8,7 +8,7 @@ use lib.ListN.{length, take, drop, length-map}
 use lib.Seq.{take-append_seam}
 use Rattle.terms.specs.Limits.{slot_most, state_counts}
 use Rattle.encoding.specs.Encoding.{slot_bits, Widths, StateSum, SlotSum}
-use Rattle.book.specs.Book.{Book, count_in, accepted, refused, read}
+use Rattle.book.specs.Book.{Book, count_in, accepted, read}
 use Rattle.book.specs.declared.state.States.{States}
 use Rattle.reader.specs.BookTables.{BookTables, SlotTables, over, written, slots_written, read_into}
 use Rattle.reader.specs.Answer.{Roomy, RoomySlots, Reads}

@@ -1,10 +1,10 @@
 -- A RULE IS REPORTED AT MOST ONCE, and there are no more reports than rules.
---     each-once      a rule's reports, over any step lines
---     report-once    the reports of the first n rules
+--     each_once      a rule's reports, over any step lines
+--     report_once    the reports of the first n rules
 use mathlib.Core.Path.{◌≡◌, refl, ap, subst, ◌∙◌}
 use mathlib.Core.Bool.{Bool, true, false, ◌&&◌}
 use mathlib.Core.Bool as bool
-use mathlib.Core.List.{List, [], ◌∷◌, ◌++◌}
+use mathlib.Core.List.{List, ◌∷◌, ◌++◌}
 use Prim.Native.Nat.{ℕ, zero, suc, ◌+◌, ◌≤◌}
 use native.Mathlib.Omega.{arith}
 use borrow.Author.Tests.{eqb-true, ne_eqb}

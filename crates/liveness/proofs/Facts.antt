@@ -1,10 +1,10 @@
 -- What the split of a rule says, apart from any table.
 --     none-exactly     `none` is the answer exactly for an assumption or a property without liveness
---     within-is-calm   `within` is no liveness of its own
+--     within_is_calm   `within` is no liveness of its own
 --     numbered         the obligations of a skeleton are 0, 1, 2 and on, left to right
 use mathlib.Core.Path.{◌≡◌, refl, sym, ap, ap₂, ◌∙◌}
 use mathlib.Core.Bool.{Bool, true, false}
-use mathlib.Core.List.{List, [], ◌∷◌, ◌++◌}
+use mathlib.Core.List.{List, ◌∷◌, ◌++◌}
 use mathlib.Core.Logic.{◌⊎◌, inl, inr}
 use Prim.Native.Nat.{ℕ, zero, suc, ◌+◌}
 use native.Mathlib.Omega.{arith}

@@ -1,10 +1,10 @@
 -- Document 01, "Liveness" and refusals 20 to 23: the liveness split of a property (`LivenessDecomposition::compute` of src/mc/plan.rs).
 --     live           the formula has `eventually` or `until` (`contains_liveness`; `within` is none of them)
 --     faults         the refusals that apply, in the order of the walk: parents first, left before right. The first is the answer
---     skeletonOf     the and, or, implies, not of a formula; each atom is a safety leaf, each `eventually` or `until` the next obligation
---     obligationsOf  its `eventually` and `until`, left to right
---     splitOf        the answer for a rule
-use Rattle.std.specs.Prelude.{Bool, true, false, ◌||◌, List, [], ◌∷◌, ◌++◌, ℕ, ◌+◌, length}
+--     skeleton_of     the and, or, implies, not of a formula; each atom is a safety leaf, each `eventually` or `until` the next obligation
+--     obligations_of  its `eventually` and `until`, left to right
+--     split_of        the answer for a rule
+use Rattle.std.specs.Prelude.{Bool, true, false, ◌||◌, List, ◌∷◌, ◌++◌, ℕ, ◌+◌, length}
 use Rattle.formula.specs.Tree.{leaf, one, two, size}
 use Rattle.formula.specs.Formula.{Atom, Formula, not, next, always, eventually, always_for, within, and, or, implies, until}
 use Rattle.formula.specs.Pure.{pure, unless}

@@ -1,7 +1,7 @@
 -- A list of step calls: refused ones leave no trace, and the accepted ones are the steps of a record.
 use mathlib.Core.Path.{◌≡◌, refl, sym, ap, ap₂, subst, ◌∙◌}
 use mathlib.Core.Bool.{Bool, true, false, cond}
-use mathlib.Core.List.{List, [], ◌∷◌, ◌++◌}
+use mathlib.Core.List.{List, ◌∷◌, ◌++◌}
 use mathlib.Core.Option.{Option, none, some}
 use mathlib.Core.Logic.{inl, inr, ⊎_elim, ◌↔◌}
 use Prim.Native.Nat.{ℕ, suc, ◌+◌, ◌<◌}
@@ -15,9 +15,8 @@ use Rattle.formula.proofs.Trees.{some_inj}
 use Rattle.monitor.specs.declared.range.AnchorRange.{AnchorRange}
 use Rattle.monitor.specs.Mon.{Signal, range_check, delayed_check, obligation, Mon, check, And, Or}
 use Rattle.meaning.specs.Alarm.{Record, during, triggers, window_end, CheckAlarm, Alarm, First}
-use Rattle.meaning.specs.Culprit.{Culprit, Report}
 use Rattle.meaning.specs.State.{ObligationState, State, culprit, initial_state, step, newly_failed, after, EachNode, IfObligation, EachObligation}
-use Rattle.meaning.specs.Calls.{after_call, Call, refused, accepted, step_all, report_of, AcceptedAt, Below, InOrder, words_of, step_count, Over, first_report}
+use Rattle.meaning.specs.Calls.{after_call, Call, refused, accepted, step_all, report_of, AcceptedAt, InOrder, words_of, step_count, Over, first_report}
 use Rattle.meaning.specs.Meaning.{Sound, NodeSound, Judged}
 use Rattle.meaning.proofs.Windows.{Kept, kept_marked, kept_names}
 use Rattle.meaning.proofs.Steps.{and_left, and_right, or_left, or_right, obligation_kept, marked, reports}

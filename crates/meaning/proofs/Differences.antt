@@ -2,7 +2,7 @@
 --     FalseAlarm    the rule is true at step 0, and yet reported
 --     Missing       it is false at step 0, and no alarm ever holds
 use mathlib.Core.Path.{◌≡◌, refl}
-use mathlib.Core.List.{List, [], ◌∷◌}
+use mathlib.Core.List.{List, ◌∷◌}
 use mathlib.Core.Logic.{inl, inr}
 use mathlib.Core.Option.{some}
 use Prim.Native.Nat.{ℕ, zero, suc, ◌≤◌}
@@ -56,7 +56,7 @@ pub bare_delayed : FalseAlarm (two implies v0 (one next v1)) (0 ∷ 1 ∷ 0 ∷ 
 unfolding Holds Fails faults consequent node implication pure value truth first_report step check_step
 bare_delayed = record { compiles = refl; holds = inl refl; reported = refl }
 
--- ---- `always` under `always_for` is checked in the range alone
+-- ---- `always` under `always-for` is checked in the range alone
 pub nested_always : Missing (one (always_for 1) (one always v0)) (1 ∷ 0 ∷ [])
 unfolding Fails faults node value truth Alarm CheckAlarm
 nested_always = record {
@@ -95,7 +95,7 @@ stays_alarmed = record { compiles = refl; holds = go; reported = refl }
     go (suc zero) z = inl (1, omega arith, omega arith, refl)
     go (suc (suc u)) z = inr refl
 
--- ---- `always_for 0`, true of every record, does not compile
+-- ---- `always-for 0`, true of every record, does not compile
 pub never_for : (rec : Record) → Holds (one (always_for 0) v0) rec 0
 unfolding Holds
 never_for rec u y z = absurd (omega arith)

@@ -2,21 +2,18 @@
 --     Lawful        what is asked of single events
 --     meets         from there to the demand
 use mathlib.Core.Path.{◌≡◌, refl, sym, ap, subst, ◌∙◌}
-use mathlib.Core.List.{List, [], ◌∷◌, ◌++◌, append_assoc, append-nil}
+use mathlib.Core.List.{List, ◌∷◌, ◌++◌, append_assoc, append-nil}
 use mathlib.Core.Logic.{◌↔◌}
 use mathlib.Core.Option.{Option, some}
-use Prim.Native.Nat.{ℕ, ◌+◌, ◌<◌}
+use Prim.Native.Nat.{ℕ, ◌<◌}
 use native.Mathlib.Nat.{zero-add}
-use lib.ListN.{get_or}
 use Rattle.formula.specs.Formula.{Formula}
 use Rattle.monitor.specs.Mon.{Mon}
 use Rattle.monitor.specs.Compile.{rule_node}
 use Rattle.meaning.specs.Alarm.{Record, Alarm, First}
-use Rattle.meaning.specs.State.{State, EachNode, EachObligation, initial_state, after}
-use Rattle.meaning.specs.Calls.{Call, accepted, step_all, report_of, AcceptedAt, InOrder, words_of, step_count, Over, record_of}
-use Rattle.meaning.specs.Meaning.{Sound, NodeSound}
-use Rattle.meaning.specs.Plain.{Plain}
-use Rattle.meaning.specs.Demand.{Machine, run_all, calls_of, Fair, AllFair, Lent, Keeps, Tells, PlainTells, Demand}
+use Rattle.meaning.specs.State.{State, initial_state, after}
+use Rattle.meaning.specs.Calls.{Call, accepted, step_all, report_of, AcceptedAt, InOrder, step_count, Over, record_of}
+use Rattle.meaning.specs.Demand.{Machine, run_all, calls_of, Fair, AllFair, Lent, Tells, Demand}
 use Rattle.meaning.proofs.Calls.{in_order_split, over_part, over_rest, stepped_append, stepped_part, reported, obligations_sound, nodes_sound}
 use Rattle.meaning.proofs.Plains.{plain_exact}
 

@@ -1,8 +1,7 @@
 -- Plain rules: they compile, and their alarms are exactly what temporal logic says.
 use mathlib.Core.Path.{◌≡◌, refl, sym, ap, ap₂, subst, ◌∙◌}
 use mathlib.Core.Bool.{Bool, true, false, ◌&&◌}
-use mathlib.Core.Bool as bool
-use mathlib.Core.List.{List, [], ◌++◌}
+use mathlib.Core.List.{List, ◌++◌}
 use mathlib.Core.Logic.{◌⊎◌, inl, inr, ⊎_elim, ◌↔◌}
 use Prim.Native.Nat.{ℕ, zero, suc, ◌+◌, ◌-◌, ◌≤◌, ◌<◌, max}
 use native.Mathlib.Omega.{arith}
@@ -276,7 +275,7 @@ exact_again f r rec m all x = record {
   silent = λ h t i u z. x.silent h u (all u);
 }
 
--- ---- what may stand below `always` and `always_for`
+-- ---- what may stand below `always` and `always-for`
 pub body_exact : {unbounded : Bool} {f : Formula} → Body unbounded f → (rec : Record) (i : ℕ) (r : AnchorRange)
     → (unbounded ≡ true → (t : ℕ) → contains_of r t ≡ true) → Exact f r rec (node f i r true)
 unfolding node implication

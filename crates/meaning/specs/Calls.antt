@@ -1,11 +1,11 @@
 -- Lists of step calls, refused ones included, from a fresh monitor on.
---     stepAll, reportOf   each call gets the state as the last one left it; the step of the first report
+--     step_all, report_of   each call gets the state as the last one left it; the step of the first report
 --     InOrder             the accepted calls are at k, k+1, k+2 and on
 --     AcceptedAt, Below   a call is accepted at s; each is below 2^63
---     recordOf            the truths of the accepted calls in their order
+--     record_of            the truths of the accepted calls in their order
 --     Over                they are the first words of a record
---     firstReport         stepping over a list of words up to the first report
-use Rattle.std.specs.Prelude.{Bool, true, false, cond, List, [], ◌∷◌, ◌⊎◌, ◌≡◌, ℕ, suc, ◌<◌, ℤ, length, get_or}
+--     first_report         stepping over a list of words up to the first report
+use Rattle.std.specs.Prelude.{cond, List, ◌∷◌, ◌⊎◌, ◌≡◌, ℕ, suc, ◌<◌, ℤ, length, get_or}
 use Rattle.std.proofs.Math.Option.{Option, none, some}
 use Rattle.terms.specs.Limits as limits
 use Rattle.monitor.specs.Mon.{Mon}

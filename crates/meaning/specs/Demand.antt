@@ -4,12 +4,11 @@
 --     Demand    the whole claim: a rule that compiles, from its fresh monitor on
 -- Alarms and culprits are read from a record of truths alone (Alarm.antt, Culprit.antt), temporal logic stands in Logic.antt, plain rules in
 -- Plain.antt, lists of calls in Calls.antt, and what a state says of the steps so far in Meaning.antt.
-use Rattle.std.specs.Prelude.{List, [], ◌∷◌, ◌++◌, ◌↔◌, ◌≡◌, ℕ, ◌≤◌, ◌<◌}
+use Rattle.std.specs.Prelude.{List, ◌∷◌, ◌++◌, ◌↔◌, ◌≡◌, ℕ, ◌≤◌, ◌<◌}
 use Rattle.std.proofs.Math.Option.{Option, some}
 use Rattle.terms.specs.Limits as limits
 use Rattle.formula.specs.Formula.{Formula}
 use Rattle.monitor.specs.Mon.{Mon}
-use Rattle.monitor.specs.Compile.{rule_node}
 use Rattle.meaning.specs.Alarm.{Record, Alarm, First}
 use Rattle.meaning.specs.Calls.{Call, accepted, AcceptedAt, Below, InOrder, Over, record_of, step_count}
 use Rattle.meaning.specs.Logic.{Fails}

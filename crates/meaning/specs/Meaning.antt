@@ -3,7 +3,7 @@
 --     Judged    many words at once
 --     PlainMeans   a plain rule over an endless record
 --     Ticks, Closes, Opens   what one call leaves of an obligation's window, from any well-shaped state
-use Rattle.std.specs.Prelude.{Bool, true, false, [], ◌↔◌, ◌≡◌, ℕ, ◌+◌, ◌≤◌, ◌<◌, ℤ, pos}
+use Rattle.std.specs.Prelude.{Bool, true, false, ◌↔◌, ◌≡◌, ℕ, ◌+◌, ◌≤◌, ◌<◌, ℤ, pos}
 use Rattle.std.proofs.Math.Bool as bool
 use Rattle.std.proofs.Math.Option.{Option, none, some}
 use Rattle.monitor.specs.declared.range.AnchorRange.{AnchorRange}
@@ -12,7 +12,7 @@ use Rattle.monitor.specs.Mon.{Signal, obligation, Mon}
 use Rattle.monitor.specs.Compile.{rule_faults, rule_node}
 use Rattle.meaning.specs.Alarm.{Record, during, triggers, window_end, Missed, CheckAlarm, Alarm, First}
 use Rattle.meaning.specs.Culprit.{Culprit, Report}
-use Rattle.meaning.specs.State.{ObligationState, State, failed, culprit, initial_state, newly_failed, after, EachNode, EachObligation}
+use Rattle.meaning.specs.State.{ObligationState, State, failed, culprit, newly_failed, after}
 use Rattle.meaning.specs.Logic.{Holds, Fails}
 
 -- the whole window of max(b, 1) steps from the trigger at t lies among the first k steps, and ran without the body

@@ -8,7 +8,7 @@ use Rattle.formula.specs.Pure.{pure}
 abbrev pub Pure : Formula → Type 0
 Pure f = pure f ≡ true
 
--- B: what may stand below `always` and `always_for`; `unbounded`: no `always_for` is above
+-- B: what may stand below `always` and `always-for`; `unbounded`: no `always-for` is above
 pub data Body (unbounded : Bool) : Formula → Type 0 where
   signal : {f : Formula} → Pure f → Body unbounded f
   next_signal : {f : Formula} → Pure f → Body unbounded (one next f)

@@ -1,7 +1,7 @@
 -- A monitor's state, shaped like its node (`MonState` of src/codegen/monitor.rs), and its steps (`initial_state`, `step_node`, `min_trigger_at`).
---     initialState    nothing pending, failed or remembered, every culprit minus 1
+--     initial_state    nothing pending, failed or remembered, every culprit minus 1
 --     step m st s w   one call at step s with truths w: the state afterwards, and whether the node is failing now
---     newlyFailed     what the call reports of the root
+--     newly_failed     what the call reports of the root
 --     after m rec k   the state after the steps 0 to k-1 over a record
 --     WellShaped      what is asked of a state that is handed in
 use Rattle.std.specs.Prelude.{Bool, true, false, ◌&&◌, ◌||◌, ◌≡◌, ℕ, zero, suc, ◌-◌, ◌≤◌, min, eqb, ℤ, pos, negsuc}

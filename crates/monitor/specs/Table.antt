@@ -1,8 +1,8 @@
 -- A node table: seven numbers for each node, in prefix order. A compiled rule is a part of it, a first node and a count, over the rule's
 -- own formula, which its signals are parts of.
 --     row_of     what the seven numbers of a node say
---     subAt     the part of a formula at a place
---     monOf     the compiled rule that a part of the table is, if it is one within the limits of document 01
+--     sub_at     the part of a formula at a place
+--     mon_of     the compiled rule that a part of the table is, if it is one within the limits of document 01
 -- That `mon_of` gives nothing is refusal 2 for a node table: a part outside the table, an unknown form, a part that is no prefix tree covering
 -- exactly its nodes, more than 256 nodes or depth 64, a signal that is no pure part of the rule's formula.
 use Rattle.std.specs.Prelude.{Bool, true, ◌&&◌, List, ℕ, zero, suc, ◌+◌, ◌-◌, ◌*◌, ◌<◌, ◌^◌, leb, ltb, eqb, length, get_or}

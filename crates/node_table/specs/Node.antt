@@ -1,6 +1,6 @@
 -- A formula table as a list of nodes.
 --     struct_at         the node at a place
---     ops_of, numsOf    the operations and the numbers of the nodes: the two lists of which the core's definitions speak
+--     ops_of, nums_of    the operations and the numbers of the nodes: the two lists of which the core's definitions speak
 use Rattle.std.specs.Prelude.{List, map, ℕ, get_or}
 use Rattle.node_table.specs.declared.FormulaNode.{FormulaNode}
 

@@ -1,6 +1,6 @@
 // A formula table as a lent slice of node structs: `node_at` reads one node and `put_node` stores one, and nothing else touches a node. A rule's own
-// places are read into plain columns, and columns are stored in front of a table. The borrow checker covers no function that is lent such a slice, so
-// each is proved by hand. The entry points over such a table (crates `table_calls`, `table_read`, `table_step`) hand plain columns on to the core.
+// places are read into plain columns, and columns are stored in front of a table. The entry points over such a table (crates `table_calls`,
+// `table_read`, `table_step`) hand plain columns on to the core.
 #![tactic(auto)]
 
 ghost use Rattle.std.specs.Prelude.{◌≡◌, ◌+◌, ◌≤◌, ◌<◌, length, set};

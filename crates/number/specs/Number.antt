@@ -1,8 +1,8 @@
 -- Document 01, "The book": decimal numbers below 2^64 without leading zeros except `0`, and words of 16 lowercase hexadecimal digits.
 --     places      the sum of the digits' places in a base
---     decimalOf, hexOf      the value that bytes write, or that they write none that fits
+--     decimal_of, hex_of      the value that bytes write, or that they write none that fits
 -- `hex_fits` (proofs/Numbers.antt): sixteen hexadecimal digits always fit.
-use Rattle.std.specs.Prelude.{◌≡◌, Bool, true, false, ◌&&◌, not, List, [], ◌∷◌, ℕ, ◌+◌, ◌-◌, ◌*◌, ◌^◌, ◌≤◌, ltb, eqb, length}
+use Rattle.std.specs.Prelude.{◌≡◌, Bool, true, false, ◌&&◌, not, List, ◌∷◌, ℕ, ◌+◌, ◌-◌, ◌*◌, ◌^◌, ◌≤◌, ltb, eqb, length}
 use Rattle.terms.specs.Choice.{pick}
 use Rattle.number.specs.declared.Number.{Number}
 use Rattle.number.specs.declared.Number.TheVariants.{Value, Wrong}

@@ -1,9 +1,9 @@
 -- What the layout says, apart from any table.
---     owing-bits   the bits of an obligation, for every bound
+--     owing_bits   the bits of an obligation, for every bound
 --     adjoining    a node's bits begin where those of the node before it end
 --     whole        the last node's end where the rule's do
-use mathlib.Core.Path.{◌≡◌, refl, sym, ap, ◌∙◌}
-use mathlib.Core.List.{List, [], ◌∷◌}
+use mathlib.Core.Path.{◌≡◌, ap, ◌∙◌}
+use mathlib.Core.List.{List, ◌∷◌}
 use Prim.Native.Nat.{ℕ, zero, suc, ◌+◌, ◌^◌, ◌≤◌, ◌<◌}
 use native.Mathlib.Omega.{arith}
 use lib.ListN.{length, get_or, take}

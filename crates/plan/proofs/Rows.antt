@@ -1,18 +1,18 @@
 -- Where a part of a node table is a compiled rule, its rows give that rule's pieces.
-use mathlib.Core.Path.{◌≡◌, refl, sym, ap, ap₂, subst, ◌∙◌}
-use mathlib.Core.Bool.{Bool, true, false, ◌&&◌}
-use mathlib.Core.List.{List, [], ◌∷◌, ◌++◌}
+use mathlib.Core.Path.{◌≡◌, refl, sym, ap, ap₂, ◌∙◌}
+use mathlib.Core.Bool.{◌&&◌}
+use mathlib.Core.List.{List, ◌∷◌, ◌++◌}
 use mathlib.Core.Option.{Option, none, some}
-use Prim.Native.Nat.{ℕ, zero, suc, ◌+◌, ◌*◌, ◌≤◌, ◌<◌}
+use Prim.Native.Nat.{ℕ, zero, suc, ◌+◌, ◌*◌, ◌≤◌}
 use native.Mathlib.Omega.{arith}
-use native.Mathlib.Numerals.{one-add, add-one}
+use native.Mathlib.Numerals.{one-add}
 use native.Mathlib.Nat.{add_assoc}
 use borrow.Author.Tests.{leb-true, le-ltb, ne_eqb}
-use lib.Dec.{leb, ltb, eqb}
-use lib.ListN.{length, get_or}
+use lib.Dec.{leb, ltb}
+use lib.ListN.{length}
 use Rattle.terms.specs.Choice.{pick}
-use Rattle.formula.specs.Tree.{Tree, leaf, one, two, Token, leaf_of, one_of, two_of, unknown, tree_of, size, depth}
-use Rattle.formula.specs.Spells.{run, Spells}
+use Rattle.formula.specs.Tree.{Tree, leaf, one, two, leaf_of, two_of, unknown, size, depth}
+use Rattle.formula.specs.Spells.{Spells}
 use Rattle.formula.specs.Formula.{Formula}
 use Rattle.formula.specs.Table.{rule_of}
 use Rattle.formula.proofs.Trees.{some_inj, none_some, tree_spells}
@@ -20,15 +20,13 @@ use Rattle.formula.proofs.Walks.{both_true}
 use Rattle.formula.proofs.Rules.{keep_inv}
 use Rattle.monitor.specs.declared.range.AnchorRange.{AnchorRange}
 use Rattle.monitor.specs.declared.node.SignalExpr.{SignalExpr}
-use Rattle.monitor.specs.declared.node.MonNode.{MonNode}
 use Rattle.monitor.specs.declared.node.MonNode.TheVariants.{RangeCheck, DelayedCheck, Obligation, And as AndNode, Or as OrNode}
 use Rattle.monitor.specs.declared.node.Row.{Row}
 use Rattle.monitor.specs.declared.node.Row.TheVariants.{Node, Unknown}
-use Rattle.monitor.specs.Mon.{Signal, Check, range_check, delayed_check, obligation, Mon, check, And, Or}
+use Rattle.monitor.specs.Mon.{Signal, Check, range_check, delayed_check, obligation, Mon}
 use Rattle.monitor.specs.Table.{form_at, cell, row_of, range_from, expr_from, signal_of, Never, Join, join_and, join_or, Cell, checked, cell_of, cell_at, from_tree, limited_mon, mon_of, mon_by, compiled_of}
 use Rattle.plan.specs.Layout.{nothing, register, owing, check_piece, pieces, total, bits}
 use Rattle.plan.specs.Rows.{piece_of, row_piece, row_pieces, row_bits, RowsPart}
-use Rattle.plan.specs.declared.layout.Piece.{Piece}
 use Rattle.plan.proofs.Pieces.{rows_add}
 
 -- ---- a token that is known says what its row's form and bound are

@@ -1,8 +1,8 @@
 -- Document 01, "Layout" (`layout_for` of src/mc/plan.rs): the bits of a monitor's state, node by node in prefix order.
 --     pieces    the bits of each node of a compiled rule, in prefix order
 --     bits      those of the whole rule
---     slotIn    a node's own bits and where they begin, counted from the rule's first bit
-use Rattle.std.specs.Prelude.{List, [], ◌∷◌, ◌++◌, ℕ, zero, suc, ◌+◌, get_or, take}
+--     slot_in    a node's own bits and where they begin, counted from the rule's first bit
+use Rattle.std.specs.Prelude.{List, ◌∷◌, ◌++◌, ℕ, zero, suc, ◌+◌, get_or, take}
 use Rattle.monitor.specs.Mon.{Check, range_check, delayed_check, obligation, Mon, check, And, Or}
 use Rattle.plan.specs.Width.{width}
 use Rattle.plan.specs.declared.layout.Piece.{Piece}

@@ -1,8 +1,8 @@
 -- Document 01, "Layout": ceil(log2(n)) (`ceil_log2` of src/mc/plan.rs), and the bits of a bound.
 --     LeastPower    k is the least number with n ≤ 2^k
---     ceilLog2      that number, looked for from 0 on. `ceil_log2_lem` (proofs/Widths.antt): it is found, for every n
+--     ceil_log2      that number, looked for from 0 on. `ceil_log2_lem` (proofs/Widths.antt): it is found, for every n
 --     width         ceil(log2(b+1)), the bits that hold the numbers 0 to b
-use Rattle.std.specs.Prelude.{Bool, true, false, ℕ, zero, suc, ◌+◌, ◌^◌, ◌≤◌, leb}
+use Rattle.std.specs.Prelude.{ℕ, zero, suc, ◌+◌, ◌^◌, ◌≤◌, leb}
 use Rattle.terms.specs.Choice.{pick}
 
 pub record LeastPower (n k : ℕ) : Type 0 where

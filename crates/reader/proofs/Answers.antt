@@ -1,11 +1,11 @@
 -- Reading into lent tables: one law for each return.
-use mathlib.Core.Path.{◌≡◌, refl, sym, ap, ap₂, subst, ◌∙◌}
+use mathlib.Core.Path.{◌≡◌, refl, sym, ap, ap₂, ◌∙◌}
 use mathlib.Core.Bool.{Bool, true, false, ◌&&◌}
-use mathlib.Core.List.{List, [], ◌∷◌}
+use mathlib.Core.List.{List, ◌∷◌}
 use mathlib.Core.Option.{Option, none, some}
 use Prim.Native.Nat.{ℕ, ◌+◌, ◌≤◌, ◌<◌}
 use native.Mathlib.Omega.{arith}
-use borrow.Author.Tests.{le-leb, lt-leb, leb-true}
+use borrow.Author.Tests.{le-leb, leb-true}
 use lib.Dec.{leb}
 use lib.ListN.{length}
 use Rattle.terms.specs.Limits.{book_nodes, book_rules, book_slots}
@@ -15,7 +15,7 @@ use Rattle.line.specs.Line.{parse}
 use Rattle.line.specs.declared.line.Flaw.TheVariants as flaw
 use Rattle.line.proofs.Parts.{lines_few}
 use Rattle.book.specs.Book.{Fault, word, place, unopened, field, limit, number_of}
-use Rattle.book.specs.Book.{Book, empty, whole, fault, add_line, unless, read_on, ended, Outcome, accepted, refused, BookResult, contents, refusal, book_result, read}
+use Rattle.book.specs.Book.{Book, empty, whole, fault, add_line, unless, read_on, ended, Outcome, accepted, refused, contents, refusal, book_result, read}
 use Rattle.book.specs.Checked as Checking
 use Rattle.book.specs.declared.state.States.{States}
 use Rattle.book.specs.declared.check.Checked as checked
@@ -24,7 +24,6 @@ use Rattle.reader.specs.BookTables.{BookTables, SlotTables, columns, slot_column
 use Rattle.reader.specs.FillingPass.{Fillable, FilledTables, SlotsFillable, FilledSlots}
 use Rattle.reader.specs.Answer.{Roomy, RoomySlots, Reads, result_of}
 use Rattle.reader.proofs.Runs.{roomy_is, roomy_slots_is}
-use Rattle.reader.specs.declared.read.Answer.{Answer}
 use Rattle.reader.specs.declared.read.Answer.TheVariants.{Read, Refused}
 
 pub has_room_lem : (t : BookTables) → Roomy t → roomy t ≡ true

@@ -1,8 +1,8 @@
 -- The step line at a place: one law for each return; and the theorem that an accepted book's steps stand in order where its
 -- answer says.
-use mathlib.Core.Path.{◌≡◌, refl, sym, ap, ap₂, subst, ◌∙◌}
-use mathlib.Core.Bool.{Bool, true, false, ◌&&◌, not}
-use mathlib.Core.List.{List, [], ◌∷◌, ◌++◌, append_assoc}
+use mathlib.Core.Path.{◌≡◌, refl, sym, ap, subst, ◌∙◌}
+use mathlib.Core.Bool.{Bool, true, false, not}
+use mathlib.Core.List.{List, ◌∷◌, ◌++◌, append_assoc}
 use mathlib.Core.Option.{Option, none, some}
 use Prim.Native.Nat.{ℕ, zero, suc, ◌+◌, ◌-◌, ◌≤◌, ◌<◌}
 use native.Mathlib.Omega.{arith}
@@ -14,7 +14,7 @@ use lib.ListN.{length, take, drop, length-drop, drop_of_length-le}
 use lib.Seq.{drop-drop, length-take-le}
 use Rattle.terms.specs.Choice.{pick}
 use Rattle.line.specs.Text.{lines, parts, first_at, Found}
-use Rattle.line.specs.Line.{Content, rule, node, step, states, slot, Line, bad, wrong, right, parse}
+use Rattle.line.specs.Line.{Content, rule, node, step, states, slot, Line, right, parse}
 use Rattle.line.specs.Means.{held, means, LineIs}
 use Rattle.line.specs.declared.line.Content as held-type
 use Rattle.line.specs.declared.line.Content.TheVariants as contents
@@ -23,7 +23,7 @@ use Rattle.line.specs.declared.line.Line.TheVariants as code_lines
 use Rattle.line.specs.contracts.line.Content as content-type
 use Rattle.line.specs.contracts.line.Line as line-type
 use Rattle.line.proofs.Parts.{lines_next, lines_none, first_inside}
-use Rattle.book.specs.Book.{Book, StepLine, empty, is_nil, whole, opening, Fault, stands, fault, add, add_line, Outcome, accepted, refused, unless, read_on, ended, read}
+use Rattle.book.specs.Book.{Book, StepLine, empty, is_nil, whole, opening, stands, fault, add, add_line, accepted, refused, read_on, ended, read}
 use Rattle.result.specs.Result.{given}
 use Rattle.reader.specs.Steps.{step_in, as_step, Next, next_at, next_in, next_step, result_of, before, steps_of, steps_from}
 use Rattle.reader.specs.declared.steps.StepRead.TheVariants.{Step, End}

@@ -1,17 +1,14 @@
 -- Stores into the lent tables: the laws of the functions that fill them.
-use mathlib.Core.Path.{◌≡◌, refl, sym, ap, ap₂, subst, ◌∙◌}
-use mathlib.Core.Bool.{Bool, true, false, ◌&&◌}
-use mathlib.Core.List.{List, [], ◌∷◌, ◌++◌}
-use Prim.Native.Nat.{ℕ, zero, suc, ◌+◌, ◌-◌, ◌*◌, ◌≤◌, ◌<◌}
+use mathlib.Core.Path.{◌≡◌, refl, sym, ap, subst, ◌∙◌}
+use mathlib.Core.List.{List, ◌∷◌, ◌++◌}
+use Prim.Native.Nat.{ℕ, ◌+◌, ◌-◌, ◌≤◌, ◌<◌}
 use native.Mathlib.Omega.{arith}
 use native.Mathlib.Numerals.{add-one}
-use mir.Syntax.{w64}
-use mir.Val.{Fits}
 use types.Run.{OneOf, miss}
 use denote.Enum.Declared.{tag_of}
 use lib.ListN.{length, get_or, take, drop, set, length-set}
-use lib.Seq.{paste, paste-zero, paste-suc, take-length, length-paste}
-use Rattle.line.specs.Line.{Content, rule, node, step, states, slot, Line, bad, wrong, right, parse}
+use lib.Seq.{paste, paste-zero, paste-suc, take-length}
+use Rattle.line.specs.Line.{Content, rule, node, Line, bad, wrong, right, parse}
 use Rattle.line.specs.Means.{held, means, label_in, in_line, LineIs}
 use Rattle.line.specs.declared.line.Sort.{Sort}
 use Rattle.line.specs.declared.line.Flaw.{Flaw}
@@ -21,7 +18,7 @@ use Rattle.line.specs.declared.line.Line as code
 use Rattle.line.specs.declared.line.Line.TheVariants as lines
 use Rattle.line.specs.contracts.line.Line as line-type
 use Rattle.reader.specs.BookTables.{BookTables, columns}
-use Rattle.reader.specs.FillingPass.{placed, RuleRoom, RulePut, NodeRoom, NodePut, LineRoom, LinePut, RoomFor, LeftBy, Kept, RuleDone, NodeDone}
+use Rattle.reader.specs.FillingPass.{placed, RuleRoom, RulePut, NodeRoom, NodePut, LineRoom, LinePut, LeftBy}
 use Rattle.reader.specs.declared.fill.Tally.{Tally}
 
 -- ---- a copy

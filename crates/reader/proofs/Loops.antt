@@ -1,26 +1,23 @@
 -- The loop of the filling pass: up to the place where the step lines begin there is none, and the tables there hold the whole book.
 use mathlib.Core.Path.{◌≡◌, refl, sym, ap, subst, ◌∙◌}
-use mathlib.Core.Bool.{Bool, true, false}
-use mathlib.Core.List.{List, [], ◌∷◌, ◌++◌, map}
+use mathlib.Core.List.{List, ◌∷◌, map}
 use mathlib.Core.Logic.{◌⊎◌, inl, inr}
-use mathlib.Core.Option.{Option, none, some}
-use Prim.Native.Nat.{ℕ, ◌+◌, ◌-◌, ◌≤◌, ◌<◌}
+use Prim.Native.Nat.{ℕ, ◌+◌, ◌≤◌, ◌<◌}
 use native.Mathlib.Omega.{arith}
 use mir.Syntax.{w64}
 use mir.Val.{Fits}
 use lib.ListN.{length, take, drop}
-use Rattle.terms.specs.Choice.{pick}
 use Rattle.number.proofs.Numbers.{below_or}
 use Rattle.line.specs.Text.{lines, Found}
 use Rattle.line.specs.Line.{Content, rule, node, step, states, slot, Line, bad, wrong, right, parse}
-use Rattle.book.specs.Book.{Book, empty, is_nil, last_of, stands, Fault, fault, add, add_line, accepted, unless, read_on, read}
+use Rattle.book.specs.Book.{Book, last_of, stands, fault, add, add_line, accepted, read_on}
 use Rattle.reader.specs.BookTables.{BookTables, over, cells, written}
 use Rattle.reader.specs.Answer.{Roomy}
 use Rattle.reader.specs.FillingPass.{LineRoom, LinePut, RoomFor, LeftBy, Fillable, FilledTables}
 use Rattle.reader.specs.declared.fill.Tally.{Tally}
 use Rattle.reader.proofs.Sounds.{Passed, PassedLine, passed, sane}
 use Rattle.reader.proofs.Runs.{roomy_is, Tallied, tables_eq, Long, written_long, room_by, line_after, accepted_inj, unless_none}
-use Rattle.reader.proofs.BookSteps.{Stepping, begun, later, ends}
+use Rattle.reader.proofs.BookSteps.{begun, later, ends}
 use Rattle.reader.proofs.Reaching.{Reach, reach_first, reach_on, reach_end, next_fits, line_passed, passed_as, next_lines, next_on, next_reach}
 
 -- ---- the bytes before the step lines

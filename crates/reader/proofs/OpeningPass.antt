@@ -1,19 +1,17 @@
 -- The pass over the opening lines: a line's slot is stored, and the loop ends with the book's last slot.
 use mathlib.Core.Path.{◌≡◌, refl, sym, ap, subst, ◌∙◌}
-use mathlib.Core.Bool.{Bool, true, false}
-use mathlib.Core.List.{List, [], ◌∷◌, ◌++◌, append_assoc, append-nil, map}
+use mathlib.Core.List.{List, ◌∷◌, ◌++◌, append_assoc, append-nil, map}
 use mathlib.Core.Logic.{◌⊎◌, inl, inr}
-use mathlib.Core.Option.{Option, none, some}
-use Prim.Native.Nat.{ℕ, suc, ◌+◌, ◌-◌, ◌*◌, ◌≤◌, ◌<◌}
+use Prim.Native.Nat.{ℕ, suc, ◌+◌, ◌-◌, ◌≤◌, ◌<◌}
 use native.Mathlib.Omega.{arith}
 use mir.Syntax.{w64}
 use mir.Val.{Fits}
-use types.Run.{OneOf, miss}
+use types.Run.{OneOf}
 use denote.Enum.Declared.{tag_of}
-use lib.ListN.{length, take, drop, set, length-append, length-drop}
+use lib.ListN.{length, take, drop, length-append, length-drop}
 use Rattle.number.proofs.Numbers.{below_or}
 use Rattle.line.specs.Text.{lines, Found}
-use Rattle.line.specs.Line.{Content, rule, node, step, states, slot, Line, bad, wrong, right, parse}
+use Rattle.line.specs.Line.{Content, rule, node, step, states, slot, Line, right, parse}
 use Rattle.line.specs.Means.{held, means, label_in, in_line, LineIs}
 use Rattle.line.specs.declared.line.Content as held-type
 use Rattle.line.specs.declared.line.Content.TheVariants as contents
@@ -22,10 +20,10 @@ use Rattle.line.specs.declared.line.Line.TheVariants as code_lines
 use Rattle.line.specs.contracts.line.Content as content-type
 use Rattle.line.specs.contracts.line.Line as line-type
 use Rattle.line.proofs.Sane.{Sane}
-use Rattle.book.specs.Book.{Book, empty, Fault, fault, add, add_line, accepted, unless, read_on, read}
-use Rattle.reader.specs.BookTables.{SlotTables, slot_columns, over, cells, slots_written, roomy_slots}
+use Rattle.book.specs.Book.{Book, fault, add, add_line, accepted, read_on}
+use Rattle.reader.specs.BookTables.{SlotTables, slot_columns, over, cells, slots_written}
 use Rattle.reader.specs.Answer.{RoomySlots}
-use Rattle.reader.specs.FillingPass.{SlotRoom, SlotPut, SlotRoomFor, SlotsKept, SlotDone, SlotLeftBy, SlotLineRoom, SlotLinePut, SlotsFillable, FilledSlots}
+use Rattle.reader.specs.FillingPass.{SlotRoom, SlotPut, SlotRoomFor, SlotsKept, SlotLeftBy, SlotLineRoom, SlotLinePut, SlotsFillable, FilledSlots}
 use Rattle.reader.proofs.Sounds.{Passed, PassedLine, passed, sane, label_short, slots_left, Sound}
 use Rattle.reader.proofs.Runs.{roomy_slots_is, map_long, accepted_inj, unless_none}
 use Rattle.reader.proofs.Fills.{line_right}

@@ -1,8 +1,8 @@
 -- A place in an accepted text between two lines: the lines before it are read into a book, and the next line passes every test.
 --     Reach        so far
---     next-reach   one line further
+--     next_reach   one line further
 use mathlib.Core.Path.{◌≡◌, refl, sym, ap, subst, ◌∙◌}
-use mathlib.Core.List.{List, []}
+use mathlib.Core.List.{List}
 use mathlib.Core.Option.{none}
 use Prim.Native.Nat.{ℕ, ◌+◌, ◌-◌, ◌≤◌, ◌<◌}
 use native.Mathlib.Omega.{arith}
@@ -11,7 +11,7 @@ use mir.Val.{Fits}
 use lib.ListN.{length, take, drop, length-drop, drop_of_length-le}
 use Rattle.line.specs.Text.{lines, parts, Found}
 use Rattle.line.specs.Line.{Content, Line, right, parse}
-use Rattle.book.specs.Book.{Book, empty, fault, add, add_line, accepted, unless, read_on, read}
+use Rattle.book.specs.Book.{Book, empty, fault, add, add_line, accepted, read_on, read}
 use Rattle.book.proofs.Checks.{read_line}
 use Rattle.reader.proofs.Sounds.{Passed, PassedLine, passed, Sound, sound_empty, sound_add}
 use Rattle.reader.proofs.Runs.{accepted_lines, accepted_ended, accepted_short, unless_none}

@@ -1,16 +1,16 @@
 -- One line of the filling pass: the tables are the entry's with what has been read in front.
-use mathlib.Core.Path.{◌≡◌, refl, sym, ap, ap₂, subst, ◌∙◌}
-use mathlib.Core.Bool.{Bool, true, false, ◌&&◌, not}
-use mathlib.Core.List.{List, [], ◌∷◌, ◌++◌, map}
+use mathlib.Core.Path.{◌≡◌, refl, sym, ap, subst, ◌∙◌}
+use mathlib.Core.Bool.{Bool, true, false, ◌&&◌}
+use mathlib.Core.List.{List, ◌∷◌, map}
 use mathlib.Core.Option.{Option, none, some}
-use Prim.Native.Nat.{ℕ, zero, suc, ◌+◌, ◌-◌, ◌*◌, ◌^◌, ◌≤◌, ◌<◌}
+use Prim.Native.Nat.{ℕ, suc, ◌+◌, ◌-◌, ◌≤◌, ◌<◌}
 use native.Mathlib.Omega.{arith}
 use borrow.Author.Tests.{leb-true}
 use lib.Dec.{leb}
 use lib.ListN.{length, set, length-append}
 use Rattle.terms.specs.Choice.{pick}
 use Rattle.line.specs.Text.{lines}
-use Rattle.line.specs.Line.{Content, rule, node, step, states, slot, parse}
+use Rattle.line.specs.Line.{Content, rule, node, step, states, slot}
 use Rattle.line.proofs.Sane.{Sane}
 use Rattle.book.specs.Book.{Book, empty, last_of, Fault, add, Outcome, accepted, refused, unless, read_on, ended, read}
 use Rattle.book.proofs.States.{last_snoc, last_bump}

@@ -1,17 +1,17 @@
 -- What holds of every book that lines have been read into: its columns are of one length and within the limits.
-use mathlib.Core.Path.{◌≡◌, refl, sym, ap, ap₂, subst, ◌∙◌}
+use mathlib.Core.Path.{◌≡◌, refl, sym, subst, ◌∙◌}
 use mathlib.Core.Bool.{Bool, true, false, ◌&&◌, not}
-use mathlib.Core.List.{List, [], ◌∷◌, ◌++◌}
-use mathlib.Core.Option.{Option, none, some}
-use Prim.Native.Nat.{ℕ, zero, suc, ◌+◌, ◌-◌, ◌*◌, ◌^◌, ◌≤◌, ◌<◌}
+use mathlib.Core.List.{List, ◌∷◌, ◌++◌}
+use mathlib.Core.Option.{none, some}
+use Prim.Native.Nat.{ℕ, ◌+◌, ◌-◌, ◌≤◌, ◌<◌}
 use native.Mathlib.Omega.{arith}
 use borrow.Author.Tests.{leb-true, ltb-true}
-use lib.Dec.{leb, ltb}
+use lib.Dec.{leb}
 use lib.ListN.{length, length-append}
 use Rattle.terms.specs.Choice.{pick}
 use Rattle.line.specs.Line.{Content, rule, node, step, states, slot, sort_of, Line, bad, wrong, right, is_label, printable, parse}
 use Rattle.line.proofs.Sane.{Sane, SaneLine, parse_sane}
-use Rattle.book.specs.Book.{Book, empty, is_nil, whole, head_of, last_of, bump, Fault, place, unopened, field, limit, or_else, stands, opens, within, first_fault, fault, add, add_line}
+use Rattle.book.specs.Book.{Book, empty, is_nil, head_of, last_of, Fault, place, unopened, field, limit, or_else, stands, opens, within, first_fault, fault, add, add_line}
 use Rattle.book.proofs.States.{bump_length}
 
 pub both : {a b : Bool} → (a && b) ≡ true → (a ≡ true) × (b ≡ true)

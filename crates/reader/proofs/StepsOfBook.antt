@@ -1,11 +1,11 @@
 -- THE STEPS OF AN ACCEPTED BOOK. From the place that the answer names, the cursor hands out the book's steps in order, and then the end.
-use mathlib.Core.Path.{◌≡◌, refl, sym, ap, ◌∙◌}
-use mathlib.Core.List.{List, [], ◌∷◌}
-use mathlib.Core.Option.{Option, none, some}
+use mathlib.Core.Path.{◌≡◌, sym, ap, ◌∙◌}
+use mathlib.Core.List.{List, ◌∷◌}
+use mathlib.Core.Option.{none, some}
 use Prim.Native.Nat.{ℕ, ◌<◌}
-use Rattle.result.specs.Result.{Result, given}
+use Rattle.result.specs.Result.{given}
 use Rattle.book.specs.Book.{Book, StepLine, accepted, read}
-use Rattle.reader.specs.Steps.{Next, next_step, result_of, steps_from}
+use Rattle.reader.specs.Steps.{next_step, result_of, steps_from}
 use Rattle.reader.specs.declared.steps.StepRead.{StepRead}
 use Rattle.reader.specs.declared.steps.StepRead.TheVariants.{Step, End}
 use Rattle.reader.proofs.BookSteps as laws

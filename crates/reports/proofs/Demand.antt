@@ -1,6 +1,6 @@
 -- Demand 3, for the calls on slices: `DemandThree` (specs/Calls.antt), from the answers of `compile_formula` and `fresh` on.
 use mathlib.Core.Bool.{Bool, true, false, ◌&&◌}
-use mathlib.Core.List.{List, [], ◌∷◌}
+use mathlib.Core.List.{List, ◌∷◌}
 use mathlib.Core.Option.{Option, none, some}
 use mathlib.Core.Path.{◌≡◌, refl, sym, ap, ap₂, subst, ◌∙◌}
 use Prim.Native.Nat.{ℕ, ◌<◌}
@@ -17,10 +17,9 @@ use Rattle.monitor.specs.Mon.{Mon, rows}
 use Rattle.monitor.specs.Compile.{rule_faults, rule_node}
 use Rattle.compiler.specs.Compiled.{first_or, compile_formula, compile_call}
 use Rattle.compiler.specs.Compiled as compiling
-use Rattle.compiler_laws.proofs.ReadsBack.{ReadsRule, compiled_reads}
+use Rattle.compiler_laws.proofs.ReadsBack.{compiled_reads}
 use Rattle.meaning.specs.Calls.{accepted, Below}
-use Rattle.meaning.specs.Demand.{Lent, Demand}
-use Rattle.meaning.specs.State.{initial_state}
+use Rattle.meaning.specs.Demand.{Lent}
 use Rattle.meaning.proofs.Machines.{meets}
 use Rattle.node_step.specs.Memory.{Memory}
 use Rattle.lent.specs.Lent.{LentTables, LentMonitor, lent_of, table_room, monitor_room, rule_mon, HoldsRule, Ready, monitor_of}

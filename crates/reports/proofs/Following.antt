@@ -1,7 +1,7 @@
 -- The laws of single calls: a call of `step` or `run` follows the tree's state, keeps the monitor ready, and is accepted where it is lent enough.
-use mathlib.Core.Path.{◌≡◌, refl, sym, ap, ap₂, subst, subst₂, ◌∙◌}
+use mathlib.Core.Path.{◌≡◌, refl, sym, ap, ap₂, subst, ◌∙◌}
 use mathlib.Core.Bool.{Bool, true, false, cond}
-use mathlib.Core.List.{List, [], ◌∷◌}
+use mathlib.Core.List.{List, ◌∷◌}
 use mathlib.Core.Option.{Option, none, some}
 use Prim.Native.Nat.{ℕ, ◌+◌, ◌≤◌, ◌<◌}
 use native.Mathlib.Omega.{arith}
@@ -9,7 +9,7 @@ use lib.ListN.{length}
 use Rattle.result.specs.Result.{Result, given, refused}
 use Rattle.formula.proofs.Trees.{some_inj}
 use Rattle.monitor.specs.Mon.{Mon}
-use Rattle.meaning.specs.State.{State, Stepped, step, newly_failed}
+use Rattle.meaning.specs.State.{State, step, newly_failed}
 use Rattle.meaning.specs.Calls.{Call, accepted, step_all, words_of, step_count, Below}
 use Rattle.meaning.specs.Calls as calls
 use Rattle.meaning.specs.Demand.{Fair, Lent}
@@ -19,7 +19,7 @@ use Rattle.lent.specs.Lent.{LentTables, LentMonitor, rule_mon, HoldsRule, Ready}
 use Rattle.stepping.specs.Walk.{read_mon}
 use Rattle.stepping.specs.Call.{Effect, step_call, with}
 use Rattle.stepping.proofs.Staying.{stays_ready, Answered, no_step, steps as stepped, answered, refused_leaves, accepted_windows}
-use Rattle.runs.specs.Run.{answers_of, memory_after, report_among, on_report, many_steps, run_call, Accepts, Each}
+use Rattle.runs.specs.Run.{answers_of, memory_after, report_among, on_report, run_call, Accepts, Each}
 use Rattle.runs.proofs.Calls.{ready_after}
 use Rattle.runs.proofs.Runs.{is_calls, all_accepted, refused_untouched, fits_again, no_words}
 use Rattle.reports.specs.Calls.{Event, step_event, run_event, in_turn, calls_by, step_report, run_report, event_calls, event_report, after_event, on_slices, ReadsAs}

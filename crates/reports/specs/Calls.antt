@@ -1,8 +1,8 @@
 -- The calls on lent slices as a machine (crate meaning, specs/Demand.antt): its memory is the lent monitor, and an event is a call of `step` or of
 -- `run` with whatever tables it is lent. The contracts of `step` and `run` are equality with `step_call` and `run_call`, of which the machine is made.
---     onSlices      the machine
+--     on_slices      the machine
 --     DemandThree   demand 3 of these calls, from the answers of `compile_formula` and `fresh` on
-use Rattle.std.specs.Prelude.{Bool, true, false, List, [], ◌∷◌, ◌≡◌, ℕ, ◌+◌}
+use Rattle.std.specs.Prelude.{Bool, true, false, List, ◌∷◌, ◌≡◌, ℕ, ◌+◌}
 use Rattle.std.proofs.Math.Option.{Option, none, some}
 use Rattle.result.specs.Result.{Result, given, refused}
 use Rattle.formula.specs.Formula.{Formula}

@@ -1,9 +1,9 @@
 -- The calls of `step` that a run stands for, one after the other: which of them are refused, and how often they report.
-use mathlib.Core.Path.{◌≡◌, refl, sym, ap, ap₂, subst, ◌∙◌}
+use mathlib.Core.Path.{◌≡◌, refl, sym, ap, subst, ◌∙◌}
 use mathlib.Core.Bool.{Bool, true, false, ◌&&◌}
-use mathlib.Core.List.{List, [], ◌∷◌}
+use mathlib.Core.List.{List, ◌∷◌}
 use mathlib.Core.Logic.{◌⊎◌, inl, inr, ◌↔◌}
-use mathlib.Core.Option.{Option, none, some}
+use mathlib.Core.Option.{Option, some}
 use Prim.Native.Nat.{ℕ, zero, suc, ◌+◌, ◌≤◌, ◌<◌}
 use native.Mathlib.Omega.{arith}
 use lib.Dec.{ltb}
@@ -18,7 +18,7 @@ use Rattle.meaning.proofs.Meaning.{stays_marked, reports_once}
 use Rattle.node_step.specs.Memory.{Memory}
 use Rattle.stepping.specs.Walk.{read_mon}
 use Rattle.lent.specs.Lent.{LentTables, LentMonitor, HoldsRule, Ready}
-use Rattle.stepping.specs.Call.{Effect, refuse, or_refuse, over_rule, accept, step_call, with}
+use Rattle.stepping.specs.Call.{Effect, refuse, or_refuse, accept, step_call, with}
 use Rattle.stepping.proofs.Calling.{Went, refused_called, ready_called, went}
 use Rattle.stepping.proofs.Calling as calling
 use Rattle.stepping.proofs.Memories.{read_back}

@@ -1,15 +1,15 @@
 -- A run and the calls of `step` that it stands for (`answers_of`, `memory_after`: specs/Run.antt), for whatever is lent.
---     is-calls           a run that is taken answers and leaves what those calls do
---     all-accepted       each of those calls is accepted
---     refused-iff        with a word or more, a run is refused exactly where one of the calls is, with the lowest number among them
---     refused-by         which is the first call's, or 24
---     refused-untouched  a refused run leaves the monitor as it was
---     reports-once       at most one of the calls reports, so the first report is the only one
---     reported-iff       a run reports a step exactly where it is taken and the call at that step reports
---     fits-again         over tables that hold its rule a ready monitor is run where each step is below 2^63, and is ready again afterwards
+--     is_calls           a run that is taken answers and leaves what those calls do
+--     all_accepted       each of those calls is accepted
+--     refused_iff        with a word or more, a run is refused exactly where one of the calls is, with the lowest number among them
+--     refused_by         which is the first call's, or 24
+--     refused_untouched  a refused run leaves the monitor as it was
+--     reports_once       at most one of the calls reports, so the first report is the only one
+--     reported_iff       a run reports a step exactly where it is taken and the call at that step reports
+--     fits_again         over tables that hold its rule a ready monitor is run where each step is below 2^63, and is ready again afterwards
 --     no_words           a run of no words is handed no step
 use mathlib.Core.Path.{◌≡◌}
-use mathlib.Core.List.{List, [], ◌∷◌}
+use mathlib.Core.List.{List, ◌∷◌}
 use mathlib.Core.Logic.{◌⊎◌, ◌↔◌}
 use mathlib.Core.Option.{some}
 use Prim.Native.Nat.{ℕ, ◌+◌, ◌≤◌}

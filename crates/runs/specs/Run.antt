@@ -1,10 +1,10 @@
 -- A run of many words as one total function of what it is lent: that many calls of `step`, at s, s + 1 and on, each on the monitor as
 -- the one before left it.
---     answersOf     the answers of those calls, in order
---     memoryAfter   the memory that the last of them leaves
---     reportAmong   the first step whose call reported, among such answers
---     runCall       the answer to a run: refused as a whole, or that many calls of `step`
-use Rattle.std.specs.Prelude.{Bool, true, false, ◌&&◌, List, [], ◌∷◌, ◌⊎◌, ◌≡◌, ℕ, ◌+◌, ◌≤◌, ltb, get_or}
+--     answers_of     the answers of those calls, in order
+--     memory_after   the memory that the last of them leaves
+--     report_among   the first step whose call reported, among such answers
+--     run_call       the answer to a run: refused as a whole, or that many calls of `step`
+use Rattle.std.specs.Prelude.{Bool, true, false, ◌&&◌, List, ◌∷◌, ◌⊎◌, ◌≡◌, ℕ, ◌+◌, ◌≤◌, ltb, get_or}
 use Rattle.std.proofs.Math.Option.{Option, none, some}
 use Rattle.terms.specs.Limits.{steps}
 use Rattle.result.specs.Result.{Result, given, refused}

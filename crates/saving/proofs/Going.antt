@@ -4,10 +4,10 @@
 --     Writing     the bits so far are written
 --     Sounding    the bits so far are sound
 --     Entering    the entries so far are stored
-use mathlib.Core.Path.{◌≡◌, refl, sym, ap, ap₂, subst, ◌∙◌}
+use mathlib.Core.Path.{◌≡◌, refl, sym, ap, subst, ◌∙◌}
 use mathlib.Core.Bool.{Bool, true, false, ◌&&◌, ◌||◌}
-use mathlib.Core.List.{List, [], ◌∷◌, ◌++◌}
-use Prim.Native.Nat.{ℕ, zero, suc, ◌+◌, ◌-◌, ◌*◌, ◌^◌, ◌≤◌, ◌<◌}
+use mathlib.Core.List.{List, ◌∷◌, ◌++◌}
+use Prim.Native.Nat.{ℕ, zero, suc, ◌+◌, ◌-◌, ◌*◌, ◌≤◌, ◌<◌}
 use native.Mathlib.Omega.{arith}
 use lib.ListN.{length, get_or, length-set}
 use mir.Syntax.{w64}
@@ -17,7 +17,7 @@ use Rattle.plan.specs.Rows.{RowsPart}
 use Rattle.node_step.specs.declared.state.MonState.{MonState}
 use Rattle.node_step.specs.Memory.{Memory, put, Inside}
 use Rattle.node_step.proofs.Entries.{inside_put, inside_less}
-use Rattle.bits.specs.Bits.{bit_in, digits, ink_bit, ink_bits}
+use Rattle.bits.specs.Bits.{bit_in, ink_bit, ink_bits}
 use Rattle.bits.proofs.Loops.{ink_length}
 use Rattle.bits.proofs.Numbers.{digits_length}
 use Rattle.kept.specs.declared.Keep.{Keep}

@@ -3,9 +3,8 @@ use mathlib.Core.Path.{◌≡◌, refl, sym, ap, ap₂, subst, ◌∙◌}
 use mathlib.Core.Bool.{Bool, true, false, ◌&&◌}
 use mathlib.Core.List.{List}
 use mathlib.Core.Option.{Option, none, some}
-use Prim.Native.Nat.{ℕ, ◌+◌, ◌-◌, ◌*◌, ◌≤◌, ◌<◌}
+use Prim.Native.Nat.{ℕ, ◌-◌, ◌*◌, ◌≤◌, ◌<◌}
 use native.Mathlib.Omega.{arith}
-use lib.Dec.{leb}
 use lib.ListN.{length}
 use lib.Seq.{sets}
 use borrow.Author.Tests.{lt-leb, le-leb}
@@ -14,14 +13,14 @@ use Rattle.monitor.specs.Mon.{Mon}
 use Rattle.monitor.specs.Table.{compiled_of}
 use Rattle.plan.specs.Rows.{Summed}
 use Rattle.node_step.specs.Memory.{Memory}
-use Rattle.lent.specs.Lent.{LentTables, tables, monitor_of, lent_of, rule_mon, Spanned}
+use Rattle.lent.specs.Lent.{LentTables, tables, lent_of, rule_mon}
 use Rattle.lent.proofs.Refusals.{no_rule, some_rule, spanned}
 use Rattle.stepping.specs.declared.fresh.Outcome.{Outcome}
 use Rattle.stepping.specs.declared.fresh.Outcome.TheVariants.{Made, Refused}
-use Rattle.stepping.specs.Fresh.{Making, column, refuse}
+use Rattle.stepping.specs.Fresh.{Making, column}
 use Rattle.bits.specs.Bits.{bit_in, blank}
 use Rattle.kept.specs.declared.Keep.{Keep}
-use Rattle.kept.specs.Kept.{keeps, kept_bits, kept_bytes, row_keeps, sound_from, stored, entered, entries_in, BitsPart, WholePart}
+use Rattle.kept.specs.Kept.{kept_bits, kept_bytes, row_keeps, sound_from, stored, entered, entries_in, WholePart}
 use Rattle.saving.specs.Restore.{or_refuse, restored, restore_kept, restore_mon, restore_call, RestoreAnswers, Restorable}
 use Rattle.saving.proofs.Rows.{rows_keep, bits_part}
 

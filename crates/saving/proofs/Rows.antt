@@ -1,14 +1,13 @@
 -- The rows of a node table and what a rule keeps.
---     rows-keep    where they hold a compiled rule they keep what it keeps
---     rest-row     the next of the rows that are left
-use mathlib.Core.Path.{◌≡◌, refl, sym, ap, ap₂, subst, ◌∙◌}
-use mathlib.Core.List.{List, [], ◌∷◌, ◌++◌}
+--     rows_keep    where they hold a compiled rule they keep what it keeps
+--     rest_row     the next of the rows that are left
+use mathlib.Core.Path.{◌≡◌, sym, ap, ap₂, ◌∙◌}
+use mathlib.Core.List.{List, ◌∷◌, ◌++◌}
 use mathlib.Core.Option.{some}
 use Prim.Native.Nat.{ℕ, zero, suc, ◌+◌, ◌-◌, ◌≤◌, ◌<◌}
 use native.Mathlib.Omega.{arith}
 use native.Mathlib.Nat.{add-zero, zero-add}
-use Rattle.monitor.specs.declared.node.MonNode.TheVariants.{And as AndNode, Or as OrNode}
-use Rattle.monitor.specs.Mon.{Mon, check, And, Or, count, node_of}
+use Rattle.monitor.specs.Mon.{Mon, check, And, Or, count}
 use Rattle.monitor.specs.Table.{row_of}
 use Rattle.plan.proofs.Rows.{table_bits, table_part}
 use Rattle.lent.specs.Nodes.{NodesAt}

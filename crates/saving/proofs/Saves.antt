@@ -2,24 +2,22 @@
 use mathlib.Core.Path.{◌≡◌, refl, sym, ap, ap₂, subst, ◌∙◌}
 use mathlib.Core.Bool.{Bool, true, false}
 use mathlib.Core.Bool as bool
-use mathlib.Core.List.{List, [], ◌∷◌, ◌++◌}
+use mathlib.Core.List.{List, ◌∷◌}
 use mathlib.Core.Option.{Option, none, some}
-use Prim.Native.Nat.{ℕ, zero, suc, ◌+◌, ◌*◌, ◌≤◌, ◌<◌}
+use Prim.Native.Nat.{ℕ, ◌+◌, ◌≤◌, ◌<◌}
 use native.Mathlib.Omega.{arith}
-use lib.Dec.{leb}
 use lib.IntN.{ℤ}
 use lib.ListN.{length, get_or, length-append}
-use lib.Seq.{sets}
 use borrow.Author.Tests.{lt-leb, le-leb}
 use Rattle.terms.specs.Choice.{pick}
 use Rattle.result.specs.Result.{given}
 use Rattle.monitor.specs.Mon.{Mon, count}
-use Rattle.node_step.specs.Memory.{Memory, entries}
+use Rattle.node_step.specs.Memory.{entries}
 use Rattle.lent.specs.Lent.{LentTables, LentMonitor, tables, monitor_of, is_lent, rule_mon, fits, unfit, refusal_of, HoldsRule, Ready}
 use Rattle.lent.proofs.Standings.{rule_stood, rule_inside, lent_both}
 use Rattle.lent.proofs.Refusals.{not_refused}
 use Rattle.stepping.proofs.Memories.{count_pos}
-use Rattle.bits.specs.Bits.{packed, ink_bits}
+use Rattle.bits.specs.Bits.{ink_bits}
 use Rattle.bits.proofs.Packing.{inked}
 use Rattle.kept.specs.declared.Keep.{Keep}
 use Rattle.kept.specs.Kept.{keep_written, keeps, kept_bits, kept_bytes, row_keeps, spent, state_bits_of}

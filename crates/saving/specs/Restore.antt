@@ -1,10 +1,10 @@
 -- Restoring as one total function from what is lent to the result and the monitor afterwards.
---     restoreCall       1, then 2, of tables; 1 of the bytes; 27; else a monitor with the state that the bits say. What the monitor held is not tested
+--     restore_call       1, then 2, of tables; 1 of the bytes; 27; else a monitor with the state that the bits say. What the monitor held is not tested
 --     RestoreAnswers    what the call answers and leaves is what such a function says
-use Rattle.std.specs.Prelude.{Bool, true, false, List, ◌≡◌, ℕ, ◌≤◌, leb, length}
+use Rattle.std.specs.Prelude.{Bool, true, false, List, ◌≡◌, ℕ, leb, length}
 use Rattle.std.proofs.Math.Option.{Option, none, some}
 use Rattle.std.proofs.lemmas.List.Edits.{sets}
-use Rattle.result.specs.Result.{Result, given, refused}
+use Rattle.result.specs.Result.{given}
 use Rattle.monitor.specs.Mon.{Mon}
 use Rattle.node_step.specs.Memory.{Memory}
 use Rattle.lent.specs.Lent.{LentTables, lent_of, rule_mon, Spanned}

@@ -1,5 +1,5 @@
 -- Saving as one total function from what is lent to the result and the bytes afterwards.
---     saveCall       1, then 2, of tables and monitor; 1 of the bytes; 26; else the state in bits
+--     save_call       1, then 2, of tables and monitor; 1 of the bytes; 26; else the state in bits
 --     SaveAnswers    what the call answers and leaves is what such a function says
 use Rattle.std.specs.Prelude.{Bool, true, false, List, ◌≡◌, ℕ, ◌≤◌, leb, length}
 use Rattle.std.proofs.Math.Bool as bool

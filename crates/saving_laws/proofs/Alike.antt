@@ -1,15 +1,14 @@
 -- Two states of a rule that are alike in all that has bits, and in the marks of obligations and delayed checks.
---     step-alike     alike states answer a step alike, and are alike again
+--     step_alike     alike states answer a step alike, and are alike again
 --     Like           two rules of the same forms, whose obligations have the same bounds: one monitor's entries fit both or none
 use mathlib.Core.Path.{◌≡◌, refl, sym, ap, ap₂, subst, ◌∙◌}
 use mathlib.Core.Bool.{Bool, true, false, ◌&&◌, ◌||◌, cond}
 use mathlib.Core.Bool as bool
-use mathlib.Core.List.{List, [], ◌∷◌, ◌++◌}
+use mathlib.Core.List.{List, ◌∷◌, ◌++◌}
 use mathlib.Core.Logic.{⊎_elim}
 use Prim.Native.Nat.{ℕ, zero, suc, ◌+◌, ◌-◌}
 use native.Mathlib.Omega.{arith}
 use lib.Dec.{eqb}
-use lib.ListN.{get_or}
 use Rattle.formula.proofs.Cases.{true_or, true_false}
 use Rattle.monitor.specs.declared.range.AnchorRange.{AnchorRange}
 use Rattle.monitor.specs.Range.{contains_of}
@@ -19,14 +18,13 @@ use Rattle.meaning.specs.Alarm.{truth}
 use Rattle.meaning.specs.State.{DelayedState, ObligationState, CheckState, State, WellShaped, CheckShaped, failed, obligation_step, check_step, joined_step, step, newly_failed}
 use Rattle.meaning.proofs.Windows.{obligation_failed, obligation_open_body, obligation_open_without, obligation_idle, obligation_opens_body, obligation_opens, obligation_zero_fails, obligation_zero_body, obligation_zero_idle}
 use Rattle.meaning.proofs.Steps.{step_marks}
-use Rattle.node_step.specs.Memory.{Memory, get}
+use Rattle.node_step.specs.Memory.{Memory}
 use Rattle.stepping.specs.Walk.{read_mon, Blameless}
 use Rattle.lent.specs.Lent.{LentMonitor, fits}
 use Rattle.stepping.specs.Fitted.{OwnForms}
 use Rattle.stepping.proofs.Fitting.{fits_inv, fits_by}
 use Rattle.bits.specs.Bits.{digits}
-use Rattle.kept.specs.declared.Keep.TheVariants.{Nothing}
-use Rattle.kept.specs.Kept.{keep_written, window_written, keeps, state_bits_of, spent_from}
+use Rattle.kept.specs.Kept.{window_written, keeps, state_bits_of, spent_from}
 use Rattle.saving_laws.proofs.Keeps.{state_parts, spent_parts}
 
 -- ---- alike states

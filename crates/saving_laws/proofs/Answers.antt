@@ -1,8 +1,8 @@
 -- What an answer of saving and of restoring tells.
---     save-inv       a monitor was saved: the rule, its room, no mark, and the bytes
---     restore-inv    a monitor was restored: the rule, its room, sound bits, and the monitor
---     restore-takes  where all that holds, it is
-use mathlib.Core.Path.{◌≡◌, refl, sym, ap, ap₂, subst, ◌∙◌}
+--     save_inv       a monitor was saved: the rule, its room, no mark, and the bytes
+--     restore_inv    a monitor was restored: the rule, its room, sound bits, and the monitor
+--     restore_takes  where all that holds, it is
+use mathlib.Core.Path.{◌≡◌, refl, sym, ap, ap₂, ◌∙◌}
 use mathlib.Core.Bool.{Bool, true, false, ◌&&◌}
 use mathlib.Core.Bool as bool
 use mathlib.Core.List.{List}
@@ -12,20 +12,19 @@ use native.Mathlib.Omega.{arith}
 use lib.Dec.{leb}
 use lib.ListN.{length}
 use lib.Seq.{sets}
-use borrow.Author.Tests.{leb-true, le-leb, not-true}
+use borrow.Author.Tests.{leb-true, le-leb}
 use Rattle.result.specs.Result.{Result, given, refused}
 use Rattle.monitor.specs.Mon.{Mon}
 use Rattle.node_step.specs.Memory.{Memory}
-use Rattle.lent.specs.Lent.{LentTables, LentMonitor, monitor_of, lent_of, table_room, monitor_room, rule_mon, refusal_of, HoldsRule, Ready}
+use Rattle.lent.specs.Lent.{LentTables, LentMonitor, monitor_of, lent_of, monitor_room, rule_mon, refusal_of, HoldsRule, Ready}
 use Rattle.lent.proofs.Refusals.{not_refused}
 use Rattle.lent.proofs.Standings.{lent_parts}
-use Rattle.stepping.specs.Fresh.{Making, refuse}
 use Rattle.bits.specs.Bits.{bit_in, packed}
 use Rattle.kept.specs.declared.Keep.{Keep}
 use Rattle.kept.specs.Kept.{keeps, kept_bytes, state_bits_of, spent, stored}
 use Rattle.saving.specs.Save as save
 use Rattle.saving.specs.Save.{Saving, written, save_kept, save_call}
-use Rattle.saving.specs.Restore.{or_refuse, restored, restore_kept, restore_mon, restore_call}
+use Rattle.saving.specs.Restore.{or_refuse, restored, restore_mon, restore_call}
 use Rattle.saving.proofs.Saves.{save_fits, save_refused}
 
 not_given : {B : Type 0} {n k : ℕ} → ◌≡◌ {A = Result ℕ} (refused k) (given n) → B

@@ -1,20 +1,18 @@
 -- The entries that bits say, and the bits of entries.
---     entered-are      entries that were stored are there
---     entries-back     the bits of a state say its entries, without marks and culprits, and are sound
---     bits-again       entries that sound bits say have these bits
+--     entered_are      entries that were stored are there
+--     entries_back     the bits of a state say its entries, without marks and culprits, and are sound
+--     bits_again       entries that sound bits say have these bits
 use mathlib.Core.Path.{◌≡◌, refl, sym, ap, ap₂, subst, ◌∙◌}
 use mathlib.Core.Bool.{Bool, true, false, ◌&&◌, ◌||◌, cond}
-use mathlib.Core.List.{List, [], ◌∷◌, ◌++◌, append_assoc}
-use mathlib.Core.Logic.{⊎_elim}
-use Prim.Native.Nat.{ℕ, zero, suc, ◌+◌, ◌-◌, ◌*◌, ◌^◌, ◌≤◌, ◌<◌}
+use mathlib.Core.List.{List, ◌∷◌, ◌++◌, append_assoc}
+use Prim.Native.Nat.{ℕ, zero, suc, ◌+◌, ◌-◌, ◌^◌, ◌≤◌, ◌<◌}
 use native.Mathlib.Omega.{arith}
-use native.Mathlib.Nat.{add-zero}
 use lib.Dec.{leb, eqb}
 use lib.ListN.{length, get_or, take, length-append}
 use lib.Seq.{get_or-append_seam, take_at}
 use borrow.Author.Tests.{leb-true, le-leb, eqb-true}
 use Rattle.terms.specs.Choice.{pick}
-use Rattle.formula.proofs.Cases.{true_or, true_false}
+use Rattle.formula.proofs.Cases.{true_false}
 use Rattle.formula.proofs.Walks.{both_true}
 use Rattle.plan.specs.Width.{width}
 use Rattle.plan.proofs.Widths.{ceil_log2_lem}

@@ -2,48 +2,44 @@
 use mathlib.Core.Path.{◌≡◌, refl, sym, ap, ap₂, subst, ◌∙◌}
 use mathlib.Core.Bool.{Bool, true, false, ◌&&◌, ◌||◌}
 use mathlib.Core.Bool as bool
-use mathlib.Core.List.{List, [], ◌∷◌, ◌++◌}
-use mathlib.Core.Option.{some}
+use mathlib.Core.List.{List}
 use Prim.Native.Nat.{ℕ, zero, suc, ◌+◌, ◌-◌, ◌*◌, ◌/◌, ◌%◌, ◌≤◌, ◌<◌}
 use native.Mathlib.Omega.{arith}
-use lib.ListN.{length, get_or, take, length-append, length-take, get_or-eq_default}
-use lib.Seq.{sets, length-sets, get_or-take, length-take-le}
-use Rattle.result.specs.Result.{given}
+use lib.ListN.{length, get_or, take, length-take, get_or-eq_default}
+use lib.Seq.{sets, length-sets, get_or-take}
 use Rattle.formula.specs.Pure.{bit}
 use Rattle.formula.proofs.Trees.{some_inj}
 use Rattle.formula.proofs.Walks.{both_true}
-use Rattle.monitor.specs.Mon.{Mon, count}
+use Rattle.monitor.specs.Mon.{Mon}
 use Rattle.encoding.specs.Encoding.{bytes_for}
 use Rattle.meaning.specs.Calls.{step_count}
 use Rattle.meaning.specs.Demand.{run_all, calls_of, AllFair}
-use Rattle.meaning.specs.State.{State, WellShaped}
+use Rattle.meaning.specs.State.{State}
 use Rattle.node_step.specs.declared.state.MonState.{MonState}
-use Rattle.node_step.specs.Memory.{Memory, get, Inside}
-use Rattle.node_step.proofs.Entries.{inside_less}
+use Rattle.node_step.specs.Memory.{Memory, Inside}
 use Rattle.lent.specs.Lent.{LentTables, LentMonitor, monitor_of, monitor_room, rule_mon, table_room, HoldsRule, Ready}
-use Rattle.lent.proofs.Standings.{monitor_room_lem, room_back, rule_stood, rule_inside}
-use Rattle.stepping.specs.Fresh.{Making, fresh_of, column}
+use Rattle.lent.proofs.Standings.{monitor_room_lem, room_back, rule_inside}
+use Rattle.stepping.specs.Fresh.{Making, fresh_of}
 use Rattle.stepping.specs.Walk.{read_mon}
 use Rattle.stepping.proofs.Fitting.{fits_inv, fits_by}
 use Rattle.stepping.proofs.Starting.{fresh_ready}
 use Rattle.reports.specs.Calls.{Event, on_slices, ReadsAs, made_monitor}
 use Rattle.reports.proofs.Following.{lawful}
 use Rattle.meaning.proofs.Machines.{reads_on}
-use Rattle.resumed.specs.Since.{EachSince, Unblamed, calls_since, going}
+use Rattle.resumed.specs.Since.{EachSince, calls_since, going}
 use Rattle.resumed.proofs.Since.{since, going_calls}
 use Rattle.bits.specs.Bits.{bit_in, blank, spelled, packed}
 use Rattle.bits.proofs.Packing.{packed_bit, packed_length, sets_front, repacked}
-use Rattle.kept.specs.declared.Keep.{Keep}
-use Rattle.kept.specs.Kept.{keeps, kept_bits, kept_bytes, state_bits_of, spent, spent_from, entries_in, entered, sound_from, stored}
+use Rattle.kept.specs.Kept.{keeps, kept_bits, kept_bytes, state_bits_of, spent, spent_from, entries_in, sound_from, stored}
 use Rattle.saving.specs.Save.{Saving, written, save_call}
 use Rattle.saving.specs.Restore.{restored, restore_call}
 use Rattle.saving.proofs.Saves.{save_fits, state_length}
 use Rattle.saving_laws.specs.Off.{switched_off}
-use Rattle.saving_laws.specs.Promise.{answers_of, ComesBack, AreBytes, SavedAgain, SaveRestore}
+use Rattle.saving_laws.specs.Promise.{ComesBack, AreBytes, SavedAgain, SaveRestore}
 use Rattle.saving_laws.proofs.Keeps.{keeps_length}
 use Rattle.saving_laws.proofs.Alike.{Alike}
 use Rattle.saving_laws.proofs.Twins.{Twins, answers_alike}
-use Rattle.saving_laws.proofs.Entries.{EntriesAre, entered_are, entered_inside, entries_length, Agree, Back, entries_back, bits_again, entries_clean, clean_unspent, off_entries}
+use Rattle.saving_laws.proofs.Entries.{EntriesAre, entered_are, entered_inside, entries_length, Back, entries_back, bits_again, entries_clean, clean_unspent}
 use Rattle.saving_laws.proofs.Trees.{or_false, CleanTree, clean_each, clean_tree, Savable, saved_tree, windowed_each, off_each, off_read}
 use Rattle.saving_laws.proofs.Answers.{SavedBy, save_inv, RestoredBy, restore_takes, restore_inv, kept_saves}
 

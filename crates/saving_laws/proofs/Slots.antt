@@ -1,12 +1,12 @@
 -- Document 02: a monitor's state lies in the bits of its layout (crate plan): each node's bits stand in its slot.
-use mathlib.Core.Path.{◌≡◌, refl, sym, ap, ap₂, subst, ◌∙◌}
+use mathlib.Core.Path.{◌≡◌, refl, sym, ap, ◌∙◌}
 use mathlib.Core.Bool.{Bool, false}
-use mathlib.Core.List.{List, [], ◌∷◌, ◌++◌, append_assoc}
+use mathlib.Core.List.{List, ◌∷◌, ◌++◌, append_assoc}
 use Prim.Native.Nat.{ℕ, zero, suc, ◌+◌, ◌<◌}
 use native.Mathlib.Omega.{arith}
 use native.Mathlib.Nat.{add-zero}
-use lib.ListN.{length, get_or, take, drop, length-append}
-use Rattle.monitor.specs.Mon.{Mon, count}
+use lib.ListN.{length, get_or, take}
+use Rattle.monitor.specs.Mon.{Mon}
 use Rattle.plan.specs.Layout.{pieces, total, slot_in, bits}
 use Rattle.plan.specs.declared.layout.Piece.{Piece}
 use Rattle.bits.specs.Bits.{spelled}

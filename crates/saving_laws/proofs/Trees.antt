@@ -1,28 +1,28 @@
 -- Entries over a rule's tree.
 --     clean-shaped, clean-blameless, clean-unblamed    entries without mark and culprit: the state is well-shaped, and nothing is to blame
 --     windowed-saved      a monitor that fits and is not spent can be saved
---     off-read            entries as they come back read as the state that comes back
+--     off_read            entries as they come back read as the state that comes back
 --     off-alike           which is alike to the saved one
-use mathlib.Core.Path.{◌≡◌, refl, sym, ap, ap₂, subst, ◌∙◌}
+use mathlib.Core.Path.{◌≡◌, refl, sym, ap, subst, ◌∙◌}
 use mathlib.Core.Bool.{Bool, true, false, ◌||◌, cond}
-use mathlib.Core.List.{List, [], ◌∷◌, ◌++◌}
+use mathlib.Core.List.{List, ◌∷◌, ◌++◌}
 use mathlib.Core.Logic.{⊎_elim}
 use Prim.Native.Nat.{ℕ, zero, suc, ◌+◌, ◌≤◌}
 use native.Mathlib.Omega.{arith}
 use native.Mathlib.Nat.{add-zero}
 use lib.IntN.{ℤ}
-use lib.ListN.{length, get_or}
+use lib.ListN.{length}
 use Rattle.formula.proofs.Cases.{true_or, true_false}
 use Rattle.monitor.specs.Mon.{Check, range_check, delayed_check, obligation, Mon, check, And, Or, count, node_of}
 use Rattle.meaning.specs.Culprit.{minus_one}
-use Rattle.meaning.specs.State.{State, CheckState, ObligationState, FromMinusOne, CheckShaped, WellShaped}
+use Rattle.meaning.specs.State.{FromMinusOne, CheckShaped, WellShaped}
 use Rattle.node_step.specs.declared.state.MonState.{MonState}
 use Rattle.node_step.specs.Memory.{Memory, get}
 use Rattle.node_step.specs.Check.{read_check}
 use Rattle.stepping.specs.Walk.{read_mon, Blameless}
 use Rattle.resumed.specs.Since.{Unblamed}
 use Rattle.kept.specs.declared.Keep.{Keep}
-use Rattle.kept.specs.declared.Keep.TheVariants.{Nothing, Antecedent, Window}
+use Rattle.kept.specs.declared.Keep.TheVariants.{Nothing}
 use Rattle.kept.specs.Kept.{keep_node, keeps, spent_from}
 use Rattle.saving_laws.specs.Off.{off_check, switched_off}
 use Rattle.saving_laws.proofs.Keeps.{keeps_length, spent_parts}

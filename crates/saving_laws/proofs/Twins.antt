@@ -2,7 +2,7 @@
 use mathlib.Core.Path.{◌≡◌, refl, sym, ap, ap₂, subst, ◌∙◌}
 use mathlib.Core.Bool.{Bool, true, false, ◌&&◌, ◌||◌}
 use mathlib.Core.Bool as bool
-use mathlib.Core.List.{List, [], ◌∷◌}
+use mathlib.Core.List.{List, ◌∷◌}
 use mathlib.Core.Option.{Option, none, some}
 use Prim.Native.Nat.{ℕ, zero, suc, ◌+◌}
 use native.Mathlib.Omega.{arith}
@@ -11,28 +11,27 @@ use lib.ListN.{length}
 use lib.Seq.{sets}
 use borrow.Author.Tests.{ltb-true}
 use Rattle.terms.specs.Choice.{pick}
-use Rattle.result.specs.Result.{Result, given, refused}
-use Rattle.formula.proofs.Cases.{true_false}
+use Rattle.result.specs.Result.{Result, given}
 use Rattle.monitor.specs.Mon.{Mon}
-use Rattle.meaning.specs.State.{State, failed, step, newly_failed}
+use Rattle.meaning.specs.State.{State, failed, step}
 use Rattle.node_step.specs.Memory.{Memory, get}
-use Rattle.lent.specs.Lent.{LentTables, LentMonitor, monitor_of, is_lent, lent_of, table_room, monitor_room, rule_mon, fits, unfit, refusal_of, HoldsRule, Ready}
+use Rattle.lent.specs.Lent.{LentTables, LentMonitor, table_room, rule_mon, fits, unfit, refusal_of, HoldsRule, Ready}
 use Rattle.lent.proofs.Refusals.{not_refused}
-use Rattle.stepping.specs.Walk.{read_mon, write_mon}
+use Rattle.stepping.specs.Walk.{read_mon}
 use Rattle.stepping.specs.Call.{Effect, refuse, or_refuse, called, accept, step_call, with}
 use Rattle.stepping.proofs.Memories.{failed_read, read_back}
 use Rattle.stepping.proofs.Calling.{refused_called, ready_called}
-use Rattle.stepping.proofs.Staying.{Stays, inside_own, stays_ready}
+use Rattle.stepping.proofs.Staying.{inside_own, stays_ready}
 use Rattle.runs.specs.Run as runs
 use Rattle.runs.specs.Run.{run_call, many_steps, memory_after, report_among, in_time}
 use Rattle.bits.specs.Bits.{packed}
 use Rattle.kept.specs.Kept.{keeps, kept_bytes}
-use Rattle.saving.specs.Save.{Saving, save_call, save_kept}
+use Rattle.saving.specs.Save.{save_call}
 use Rattle.saving.specs.Save as save
 use Rattle.saving.proofs.Saves.{save_fits, save_refused}
-use Rattle.reports.specs.Calls.{Event, step_event, run_event, after_event}
-use Rattle.saving_laws.specs.Promise.{Later, event, save_event, Got, told, saved, step_told, event_told, answer, after_later, answers_of}
-use Rattle.saving_laws.proofs.Alike.{Alike, step_alike, marks_alike, reports_alike, bits_alike, spent_alike, Like, alike_over, fits_like, fits_over}
+use Rattle.reports.specs.Calls.{step_event, run_event}
+use Rattle.saving_laws.specs.Promise.{Later, event, save_event, Got, told, saved, step_told, answer, after_later, answers_of}
+use Rattle.saving_laws.proofs.Alike.{Alike, step_alike, marks_alike, reports_alike, bits_alike, spent_alike, alike_over, fits_like, fits_over}
 
 pub record Twins (k k' : LentMonitor) : Type 0 where
   pub mon : Mon

@@ -1,6 +1,6 @@
 -- Document 02, order 3: what comes back of a monitor's state. A window that is pending and a delayed check's antecedent have bits; marks come back unset,
 -- culprits as minus 1, and remaining as 0 where nothing is pending.
-use Rattle.std.specs.Prelude.{Bool, true, false, cond}
+use Rattle.std.specs.Prelude.{false, cond}
 use Rattle.monitor.specs.Mon.{Check, range_check, delayed_check, obligation, Mon, check, And, Or}
 use Rattle.meaning.specs.Culprit.{minus_one}
 use Rattle.meaning.specs.State.{CheckState, State}

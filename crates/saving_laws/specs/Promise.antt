@@ -1,10 +1,10 @@
 -- Document 02, order 3: the promise of saving, as statements about the calls.
 --     Later          a later call on a monitor, with whatever tables it is lent: a step, a run, or saving it again
---     answersOf      the answers of a list of them, each on the monitor as the one before left it
+--     answers_of      the answers of a list of them, each on the monitor as the one before left it
 --     ComesBack      saved and restored: the state that comes back, the answers of every list of later calls, and the culprits
 --     SavedAgain     restored and saved: the bytes that were read
 --     SaveRestore    both, of what the calls answer
-use Rattle.std.specs.Prelude.{Bool, true, false, List, [], ◌∷◌, ◌≡◌, ℕ, ◌<◌, ◌≤◌, length, get_or, take}
+use Rattle.std.specs.Prelude.{Bool, true, false, List, ◌∷◌, ◌≡◌, ℕ, ◌<◌, ◌≤◌, length, get_or, take}
 use Rattle.std.proofs.Math.Option.{Option, none, some}
 use Rattle.std.proofs.lemmas.List.Edits.{sets}
 use Rattle.result.specs.Result.{Result, given, refused}
@@ -12,9 +12,8 @@ use Rattle.monitor.specs.Mon.{Mon}
 use Rattle.meaning.specs.Calls.{step_count}
 use Rattle.meaning.specs.Demand.{run_all, calls_of, AllFair}
 use Rattle.node_step.specs.Memory.{Memory}
-use Rattle.lent.specs.Lent.{LentTables, LentMonitor, monitor_room, rule_mon, HoldsRule, Ready, table_room}
-use Rattle.stepping.specs.Call.{step_call, with}
-use Rattle.stepping.specs.Fresh.{Making}
+use Rattle.lent.specs.Lent.{LentTables, LentMonitor, monitor_room, rule_mon, Ready, table_room}
+use Rattle.stepping.specs.Call.{step_call}
 use Rattle.stepping.specs.Walk.{read_mon}
 use Rattle.runs.specs.Run.{run_call}
 use Rattle.reports.specs.Calls.{Event, step_event, run_event, after_event, on_slices, made_monitor}

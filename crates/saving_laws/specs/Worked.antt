@@ -1,15 +1,11 @@
 -- Worked saves: a rule, the words of steps 0, 1 and on, the bytes that its monitor is then saved as, the words that follow once it was restored, and
 -- the first report among those, with its culprit.
---     offAfter    the bytes after some steps from fresh
---     onAgain     the first report of the monitor that the bytes give, stepped on
+--     off_after    the bytes after some steps from fresh
+--     on_again     the first report of the monitor that the bytes give, stepped on
 -- `all-saves` (proofs/Worked.antt): each row is so, by computing.
-use Rattle.std.specs.Prelude.{Bool, true, false, List, [], ◌∷◌, ◌≡◌, ℕ, zero, suc, ◌+◌, ℤ, pos, negsuc, length, replicate}
-use Rattle.std.proofs.Math.Option.{Option, none, some}
-use Rattle.formula.specs.Tree.{leaf}
-use Rattle.formula.specs.Formula.{Formula, var}
-use Rattle.monitor.specs.declared.range.AnchorRange.{AnchorRange}
-use Rattle.monitor.specs.Range.{all_of, shifted_of}
-use Rattle.monitor.specs.Mon.{Signal, at, always_true, range_check, delayed_check, obligation, Mon, check, And, Or, count}
+use Rattle.std.specs.Prelude.{true, false, List, ◌∷◌, ◌≡◌, ℕ, suc, ℤ, pos, length, replicate}
+use Rattle.std.proofs.Math.Option.{Option}
+use Rattle.monitor.specs.Mon.{Mon, count}
 use Rattle.meaning.specs.Calls.{first_report}
 use Rattle.meaning.specs.Culprit.{minus_one}
 use Rattle.meaning.specs.State.{step}

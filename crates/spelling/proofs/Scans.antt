@@ -1,33 +1,32 @@
 -- What each node adds to the text, and the text of a whole formula.
 use mathlib.Core.Path.{◌≡◌, refl, sym, ap, ap₂, subst, ◌∙◌}
 use mathlib.Core.Bool.{Bool, true, false}
-use mathlib.Core.List.{List, [], ◌∷◌, ◌++◌, append_assoc}
+use mathlib.Core.List.{List, ◌∷◌, ◌++◌, append_assoc}
 use mathlib.Core.Logic.{⊎_elim}
 use Prim.Native.Nat.{ℕ, zero, suc, ◌+◌, ◌-◌, ◌≤◌, ◌<◌}
 use native.Mathlib.Omega.{arith}
-use native.Mathlib.Numerals.{add-one}
 use native.Mathlib.Nat.{add-zero}
 use borrow.Author.Tests.{lt-ltb, le-ltb}
 use lib.ListN.{length, get_or}
 use Rattle.number.proofs.Numbers.{below_or}
-use Rattle.formula.specs.Tree.{leaf, one, two, Token, leaf_of, one_of, two_of, unknown, size, prefix}
-use Rattle.formula.specs.Spells.{run, Spells}
-use Rattle.formula.specs.Formula.{Formula, Node, node, var, input, output, not, next, always, eventually, always_for, within, and, or, implies, until}
-use Rattle.formula.specs.Table.{node_at, Placed}
+use Rattle.formula.specs.Tree.{leaf, one, two, leaf_of, one_of, two_of, size, prefix}
+use Rattle.formula.specs.Spells.{run}
+use Rattle.formula.specs.Formula.{Formula, Node, node, not, next, always, eventually, always_for, within, and, or, implies, until}
+use Rattle.formula.specs.Table.{node_at}
 use Rattle.formula.specs.Pure.{pure}
 use Rattle.formula.specs.Signal.{end_if, Purely}
-use Rattle.formula.specs.Text.{Sign, atom, sign, signs_by}
+use Rattle.formula.specs.Text.{Sign, sign, signs_by}
 use Rattle.formula.specs.declared.table.Walk.{Walk}
 use Rattle.formula.specs.declared.table.Walk.TheVariants.{Upto, Stuck}
-use Rattle.formula.proofs.Trees.{size_pos, spells_run, spells_unique}
+use Rattle.formula.proofs.Trees.{spells_run, spells_unique}
 use Rattle.formula.proofs.Nodes.{node_unknown}
 use Rattle.formula.proofs.Walks.{both_true, stuck_upto, upto_inj}
 use Rattle.formula.proofs.Cases.{true_false}
 use Rattle.number.specs.Digits.{decimal}
-use Rattle.text.specs.Tape.{Tape, tape, Wrote}
+use Rattle.text.specs.Tape.{Tape, Wrote}
 use Rattle.text.proofs.Tapes.{as_text, append-nil, nothing, then}
 use Rattle.spelling.specs.Spelling.{spell, spelled, implies_as, formula_text}
-use Rattle.spelling.specs.Scan.{letter, node_signs, node_text, run_text, Pure, Inside, Spelled}
+use Rattle.spelling.specs.Scan.{letter, node_text, run_text, Pure, Inside, Spelled}
 
 -- ---- one node
 number_below : (P : ℕ → Type 0) (k : ℕ) (op : ℕ) → op < suc k → (op < k → P op) → P k → P op

@@ -1,8 +1,8 @@
 -- A pure formula's text, node by node from left to right.
---     nodeText    what a node of the formula table adds to the text
---     runText     what a run of nodes adds
--- `run-text` (proofs/Scans.antt): over the nodes of a pure formula this is the formula's text.
-use Rattle.std.specs.Prelude.{◌≡◌, Bool, true, false, List, [], ◌∷◌, ◌++◌, ℕ, ◌≤◌, ltb, length}
+--     node_text    what a node of the formula table adds to the text
+--     run_text     what a run of nodes adds
+-- `run_text` (proofs/Scans.antt): over the nodes of a pure formula this is the formula's text.
+use Rattle.std.specs.Prelude.{◌≡◌, Bool, true, List, ◌∷◌, ◌++◌, ℕ, ◌≤◌, ltb, length}
 use Rattle.terms.specs.Choice.{pick}
 use Rattle.formula.specs.Tree.{leaf_of, one_of, two_of, unknown}
 use Rattle.formula.specs.Spells.{Spells}
@@ -10,8 +10,6 @@ use Rattle.formula.specs.Formula.{Formula, Node, not, next, always, eventually, 
 use Rattle.formula.specs.Table.{node_at, Placed}
 use Rattle.formula.specs.Pure.{pure}
 use Rattle.formula.specs.Text.{Sign, atom, sign}
-use Rattle.monitor.specs.declared.node.SignalExpr.{SignalExpr}
-use Rattle.monitor.specs.declared.node.SignalExpr.TheVariants.{True, At}
 use Rattle.text.specs.Tape.{Tape, Wrote}
 use Rattle.spelling.specs.Spelling.{spelled, implies_as, formula_text}
 

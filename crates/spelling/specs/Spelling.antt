@@ -1,8 +1,8 @@
 -- Document 01, "The listing": signals are prefix text: v, i, o with the number, `!`, `&`, `|`, `T`; implies is `|!`. In operands implies is `>`.
 --     spell         the bytes of a sign
---     signalText    the text of a node's signal
---     operandText   the text of an obligation's operand
-use Rattle.std.specs.Prelude.{Bool, true, false, List, [], ◌∷◌, ◌++◌, ℕ}
+--     signal_text    the text of a node's signal
+--     operand_text   the text of an obligation's operand
+use Rattle.std.specs.Prelude.{Bool, true, false, List, ◌∷◌, ◌++◌, ℕ}
 use Rattle.formula.specs.Formula.{Formula, var, input, output}
 use Rattle.formula.specs.Text.{Sign, atom, sign, signs_by, signs, operand}
 use Rattle.monitor.specs.Mon.{Signal, always_true, at}

@@ -1,14 +1,14 @@
 -- One step of decomposing a formula without faults.
 use mathlib.Core.Path.{◌≡◌, refl, sym, ap, ap₂, subst, ◌∙◌}
 use mathlib.Core.Bool.{true, false}
-use mathlib.Core.List.{List, [], ◌∷◌, ◌++◌}
+use mathlib.Core.List.{List, ◌∷◌, ◌++◌}
 use Prim.Native.Nat.{ℕ, ◌+◌, ◌*◌, ◌-◌, ◌≤◌, ◌<◌}
 use native.Mathlib.Omega.{arith}
 use lib.ListN.{length, get_or, length-append}
 use lib.Seq.{sets}
-use Rattle.formula.specs.Tree.{leaf, one, two, one_of, two_of, size}
+use Rattle.formula.specs.Tree.{one, two, two_of, size}
 use Rattle.formula.specs.Spells.{Spells}
-use Rattle.formula.specs.Formula.{Atom, Unary, Binary, Formula, not, eventually, until}
+use Rattle.formula.specs.Formula.{Unary, Binary, Formula, not, eventually, until}
 use Rattle.formula.specs.Table.{node_at, Placed}
 use Rattle.formula.specs.Pure.{pure}
 use Rattle.formula.specs.Signal.{Purely}
@@ -17,7 +17,7 @@ use Rattle.formula.specs.declared.table.Walk.TheVariants.{Upto as WalkUpto, Stuc
 use Rattle.formula.proofs.Cases.{true_false}
 use Rattle.formula.proofs.Trees.{size_pos}
 use Rattle.formula.proofs.Nodes.{number_of, unary_number, binary_number}
-use Rattle.formula.proofs.Places.{leaf_there, one_there, two_there, in_ops, placed_left}
+use Rattle.formula.proofs.Places.{leaf_there, one_there, two_there, in_ops}
 use Rattle.liveness.specs.Split.{faults, skeleton_of, obligations_of, owes}
 use Rattle.split.specs.Held.{entries, skeleton_cells, owed_cells, Purity, Ends, SplitReady, SplitLaid, Decomposed}
 use Rattle.split.specs.declared.parts.Filled.{Filled}
@@ -25,7 +25,7 @@ use Rattle.split.proofs.Stores.{sets_then, same_length}
 use Rattle.formula.proofs.Faults.{append_nil_inv, unless_nil}
 use Rattle.liveness.proofs.Words.{only_not, only_until, faults_two, sound_eventually, both_nil}
 use Rattle.liveness.proofs.Judges.{end_true, end_false}
-use Rattle.split.proofs.Cells.{Joined, joined, entries_most, owes_most_lem, cells_length, owed_length, owed_append}
+use Rattle.split.proofs.Cells.{joined, entries_most, owes_most_lem, cells_length, owed_length, owed_append}
 
 -- ---- where a pure formula ends
 module _ (ops nums : List ℕ) (i : ℕ) where

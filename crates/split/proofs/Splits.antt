@@ -1,22 +1,20 @@
 -- The answers of the entry point `split`, one for each return.
-use mathlib.Core.Path.{◌≡◌, refl, sym, ap, ap₂, subst, ◌∙◌}
+use mathlib.Core.Path.{◌≡◌, refl, sym, ap, ap₂, ◌∙◌}
 use mathlib.Core.Bool.{Bool, true, false, ◌&&◌}
-use mathlib.Core.List.{List, [], ◌∷◌}
+use mathlib.Core.List.{List, ◌∷◌}
 use mathlib.Core.Option.{Option, none, some}
-use Prim.Native.Nat.{ℕ, ◌+◌, ◌*◌, ◌≤◌, ◌<◌}
+use Prim.Native.Nat.{ℕ, ◌≤◌, ◌<◌}
 use native.Mathlib.Omega.{arith}
 use borrow.Author.Tests.{le-leb, lt-leb}
 use lib.Dec.{leb}
 use lib.ListN.{length}
-use lib.Seq.{sets}
 use Rattle.result.specs.Result.{Result, given, refused as no_result}
-use Rattle.formula.specs.Tree.{size}
 use Rattle.formula.specs.Formula.{Formula}
-use Rattle.formula.specs.Table.{Rule, Placed, rule_of, is_some, roomy}
+use Rattle.formula.specs.Table.{Placed, rule_of, is_some, roomy}
 use Rattle.formula.proofs.Cases.{true_false}
 use Rattle.formula.proofs.Rules.{rule_inv}
-use Rattle.liveness.specs.Split.{live, faults, skeleton_of, obligations_of, owes, Answer, refused, parts, first_or, property, split_of}
-use Rattle.split.specs.Held.{entries, skeleton_cells, owed_cells, Split, no_split, split, result_of, Outcome, outcome, held, roomy_split, of_rule, unless_short, splitting, SplitReady, SplitLaid, Decomposed}
+use Rattle.liveness.specs.Split.{faults, skeleton_of, obligations_of, owes, Answer, refused, parts, first_or, property, split_of}
+use Rattle.split.specs.Held.{entries, Split, no_split, split, result_of, outcome, held, roomy_split, of_rule, unless_short, splitting, SplitReady, Decomposed}
 use Rattle.liveness.specs.Judge.{Lives, top_of, Judged}
 use Rattle.split.specs.declared.parts.Liveness.{Liveness}
 use Rattle.split.specs.declared.parts.Liveness.TheVariants.{None, Parts, Refused}

@@ -1,7 +1,7 @@
 -- A call on a monitor: its tests in their order, and what it does; and the step call.
---     ready-called    over tables that hold the rule of a ready monitor: 24, else what the call does
+--     ready_called    over tables that hold the rule of a ready monitor: 24, else what the call does
 --     went            the three ways that a call goes
-use mathlib.Core.Path.{◌≡◌, refl, sym, ap, ap₂, subst, ◌∙◌}
+use mathlib.Core.Path.{◌≡◌, refl, sym, ap, subst, ◌∙◌}
 use mathlib.Core.Bool.{Bool, true, false, ◌&&◌}
 use mathlib.Core.Bool as bool
 use mathlib.Core.Option.{Option, none, some}

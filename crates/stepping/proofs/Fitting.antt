@@ -1,6 +1,6 @@
 -- Refusal 2 of a monitor (`fits_mon`, crates/lent, specs/Shape.antt) and the well-shaped states of crates/meaning: both ways.
 --     fits_iff           a monitor's entries fit a rule exactly where they are `Fitted`
---     monitor-fits-iff   a monitor fits it exactly where it also has the rule's count
+--     monitor_fits_iff   a monitor fits it exactly where it also has the rule's count
 use mathlib.Core.Path.{◌≡◌, refl, sym, ap, ap₂, ◌∙◌}
 use mathlib.Core.Bool.{Bool, true, false, ◌&&◌, ◌||◌}
 use mathlib.Core.Bool as bool

@@ -22,7 +22,6 @@ use Rattle.monitor.specs.Table.{row_of, form_at, cell, range_from, expr_from}
 use Rattle.meaning.specs.Culprit.{minus_one}
 use Rattle.meaning.specs.State.{WellShaped, initial_state}
 use Rattle.meaning.proofs.Meaning.{fresh_shaped}
-use Rattle.node_step.specs.declared.state.MonState.{MonState}
 use Rattle.node_step.specs.Memory.{Memory, get, Inside, initial_entry}
 use Rattle.node_step.specs.Check.{read_check}
 use Rattle.node_step.proofs.Entries.{inside_less}

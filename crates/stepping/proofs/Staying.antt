@@ -1,9 +1,9 @@
 -- The calls on a monitor that fits a rule, over whatever tables hold that rule.
---     stays-ready        below 2^63 it is accepted, and ready again afterwards
+--     stays_ready        below 2^63 it is accepted, and ready again afterwards
 --     answered           a call is refused and leaves the monitor, or it is the step of a ready monitor
---     refused-leaves     a refused call leaves the monitor
---     accepted-windows   an accepted call steps each window of the monitor's obligations as crates/meaning says
-use mathlib.Core.Path.{◌≡◌, refl, sym, ap, subst, ◌∙◌}
+--     refused_leaves     a refused call leaves the monitor
+--     accepted_windows   an accepted call steps each window of the monitor's obligations as crates/meaning says
+use mathlib.Core.Path.{◌≡◌, sym, ap, subst, ◌∙◌}
 use mathlib.Core.Bool.{Bool}
 use Prim.Native.Nat.{ℕ, suc, ◌+◌, ◌<◌}
 use native.Mathlib.Omega.{arith}

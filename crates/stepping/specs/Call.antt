@@ -1,13 +1,13 @@
 -- A call on a monitor as one total function from what it is lent to document 01's result and the monitor afterwards.
 --     called      any call: 1, then 2, then 24, else what it does
---     stepCall    the step call
+--     step_call    the step call
 --     Answers     what a call answers and leaves is what such a function says
 use Rattle.std.specs.Prelude.{Bool, true, false, ◌≡◌, ℕ, ltb}
 use Rattle.std.proofs.Math.Option.{Option, none, some}
 use Rattle.terms.specs.Limits.{steps}
 use Rattle.result.specs.Result.{Result, given, refused}
 use Rattle.monitor.specs.Mon.{Mon}
-use Rattle.meaning.specs.State.{Stepped, step, newly_failed}
+use Rattle.meaning.specs.State.{step, newly_failed}
 use Rattle.node_step.specs.Memory.{Memory}
 use Rattle.lent.specs.Lent.{LentTables, LentMonitor, is_lent, rule_mon, fits, HoldsRule, Ready, monitor_of}
 use Rattle.stepping.specs.declared.call.Verdict.{Verdict}

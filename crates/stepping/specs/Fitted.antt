@@ -11,7 +11,7 @@ use Rattle.monitor.specs.declared.node.MonNode.TheVariants.{RangeCheck, DelayedC
 use Rattle.monitor.specs.Range.{contains_of}
 use Rattle.monitor.specs.Mon.{Signal, range_check, delayed_check, obligation, Mon, check, And, Or, count, node_of}
 use Rattle.meaning.specs.Alarm.{truth}
-use Rattle.meaning.specs.State.{ObligationState, State, Stepped, WellShaped, step, newly_failed}
+use Rattle.meaning.specs.State.{ObligationState, State, WellShaped, step, newly_failed}
 use Rattle.meaning.specs.Meaning.{Ticks, Closes, Opens}
 use Rattle.node_step.specs.Memory.{Memory}
 use Rattle.lent.specs.Lent.{LentTables, LentMonitor, rule_mon}

@@ -1,7 +1,7 @@
 -- The walk of a step over a monitor's nodes: the memory read as the tree's state, and the memory that holds a state.
---     readMon     the tree's state in the memory
+--     read_mon     the tree's state in the memory
 --     ShapedAt    what is asked of the entries
---     writeMon    the memory that holds a state; what a state does not have, and every other entry, stays as it was
+--     write_mon    the memory that holds a state; what a state does not have, and every other entry, stays as it was
 use Rattle.std.specs.Prelude.{Bool, true, false, List, ◌≡◌, ℕ, ◌+◌, ◌*◌, ◌≤◌, ◌<◌, length}
 use Rattle.terms.specs.Limits as limits
 use Rattle.formula.specs.Tree.{Token, leaf_of, two_of, unknown}
@@ -13,11 +13,11 @@ use Rattle.monitor.specs.declared.node.Row.TheVariants.{Node, Unknown}
 use Rattle.monitor.specs.Mon.{Check, range_check, delayed_check, obligation, Mon, check, And, Or, count}
 use Rattle.monitor.specs.Table.{row_of}
 use Rattle.meaning.specs.Culprit.{minus_one}
-use Rattle.meaning.specs.State.{State, Stepped, WellShaped, step}
+use Rattle.meaning.specs.State.{State, WellShaped, step}
 use Rattle.node_step.specs.declared.state.MonState.{MonState}
 use Rattle.node_step.specs.declared.joined.Parts.TheVariants.{Single}
 use Rattle.node_step.specs.Memory.{Memory, get, put, Inside}
-use Rattle.node_step.specs.Check.{obligation_of, read_check, write_check, Steppable}
+use Rattle.node_step.specs.Check.{read_check, write_check, Steppable}
 use Rattle.node_step.specs.Joined.{parts_of, joined_entry}
 use Rattle.lent.specs.Nodes.{NodesAt}
 use Rattle.stepping.specs.declared.walk.NodeOut.{NodeOut}

@@ -1,6 +1,6 @@
 -- What the contract of `read_table` says of the table itself.
---     short-refused    a table shorter than 1,024 nodes is refused with 1
---     refused-keeps    a refusal leaves every node as it was
+--     short_refused    a table shorter than 1,024 nodes is refused with 1
+--     refused_keeps    a refusal leaves every node as it was
 use mathlib.Core.List.{List}
 use mathlib.Core.Path.{◌≡◌, ap}
 use Prim.Native.Nat.{ℕ, ◌<◌}

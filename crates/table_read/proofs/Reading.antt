@@ -1,26 +1,24 @@
 -- Reading into two columns of 1,024 places answers as reading into any formula table with room does, and leaves the same nodes in front.
 use mathlib.Core.Bool.{Bool, true, false, ◌&&◌}
-use mathlib.Core.List.{List, [], ◌∷◌, ◌++◌}
+use mathlib.Core.List.{List, ◌++◌}
 use mathlib.Core.Path.{◌≡◌, refl, sym, ◌∙◌, ap, subst}
 use Prim.Native.Nat.{ℕ, ◌+◌, ◌≤◌, ◌<◌}
 use native.Mathlib.Omega.{arith}
 use borrow.Author.Tests.{le-leb}
-use lib.Dec.{leb}
 use lib.ListN.{length, take, drop, length-append, replicate, length-replicate}
 use lib.Seq.{take_at}
 use Rattle.terms.specs.Choice.{pick}
-use Rattle.book.specs.Book.{Book, Outcome, accepted, refused, book_result, read}
+use Rattle.book.specs.Book.{Book, Outcome, refused, book_result, read}
 use Rattle.book.specs.declared.state.States.{States}
-use Rattle.reader.specs.Answer.{Reads, Roomy}
-use Rattle.reader.specs.BookTables.{BookTables, SlotTables, over, written, slots_written, roomy, roomy_slots, read_into, after, slots_after}
+use Rattle.reader.specs.Answer.{Reads}
+use Rattle.reader.specs.BookTables.{BookTables, SlotTables, over, written, roomy, roomy_slots, read_into, after, slots_after}
 use Rattle.reader.specs.declared.read.Answer.{Answer}
 use Rattle.reader.specs.declared.read.Answer.TheVariants.{Read, Refused}
 use Rattle.reader.proofs.Answers.{ReadBack, read_inv, refused_inv}
 use Rattle.reader.proofs.Runs.{roomy_is, tables_eq}
 use Rattle.reader.proofs.Sounds.{Sound}
-use Rattle.book_laws.proofs.RuleLaws.{Done, accepted_done, into_accepted}
-use Rattle.node_table.specs.Columns.{Inside, front}
-use Rattle.node_table.specs.declared.Columns.{Columns}
+use Rattle.book_laws.proofs.RuleLaws.{accepted_done, into_accepted}
+use Rattle.node_table.specs.Columns.{front}
 use Rattle.table_read.specs.Filling.{RuleList, with_table, nodes_of, Fills}
 use Rattle.table_read.specs.declared.Filling.{Filling}
 

@@ -1,29 +1,27 @@
 -- A watch over step lines numbered 0, 1, 2 and on prints the report of their record.
---     rule-says   from the rule's formula and the compiler's answer on
+--     rule_says   from the rule's formula and the compiler's answer on
 use mathlib.Core.Bool.{Bool, true, false, ◌&&◌, cond}
-use mathlib.Core.List.{List, [], ◌∷◌, map}
-use mathlib.Core.Logic.{◌↔◌, ⊎_elim}
+use mathlib.Core.List.{List, ◌∷◌}
+use mathlib.Core.Logic.{⊎_elim}
 use mathlib.Core.Option.{Option, none, some}
 use mathlib.Core.Path.{◌≡◌, refl, sym, ap, ap₂, subst, ◌∙◌}
 use Prim.Native.Nat.{ℕ, suc, ◌+◌, ◌≤◌, ◌<◌}
 use native.Mathlib.Nat.{zero-add}
 use native.Mathlib.Omega.{arith}
-use lib.Dec.{leb}
-use lib.IntN.{ℤ, pos}
+use lib.IntN.{ℤ}
 use lib.ListN.{length, get_or, replicate, length-map}
-use Rattle.result.specs.Result.{Result, given, refused}
+use Rattle.result.specs.Result.{Result, given}
 use Rattle.formula.specs.Formula.{Formula}
-use Rattle.formula.specs.Table.{rule_of, roomy}
+use Rattle.formula.specs.Table.{rule_of}
 use Rattle.formula.proofs.Cases.{below_or}
-use Rattle.formula.proofs.Walks.{both_true}
-use Rattle.monitor.specs.Mon.{Check, range_check, delayed_check, obligation, Mon, check, And, Or}
+use Rattle.monitor.specs.Mon.{range_check, delayed_check, obligation, Mon, check, And, Or}
 use Rattle.monitor.specs.Compile.{rule_node}
 use Rattle.compiler.specs.Compiled.{compile_call}
 use Rattle.meaning.specs.Alarm.{Record, Alarm, First, NoneBelow}
 use Rattle.meaning.specs.Culprit as meaning
 use Rattle.meaning.specs.Calls.{first_report}
 use Rattle.meaning.specs.Meaning.{Judged}
-use Rattle.meaning.specs.State.{State, Stepped, step, newly_failed, culprit, initial_state, after}
+use Rattle.meaning.specs.State.{State, step, newly_failed, culprit, initial_state, after}
 use Rattle.meaning.proofs.Meaning.{judged, culprit_unique}
 use Rattle.meaning.proofs.Culprits.{first_unique}
 use Rattle.meaning.proofs.Steps.{first_alarm}
@@ -32,7 +30,7 @@ use Rattle.reader.specs.Steps.{steps_from}
 use Rattle.lent.specs.Lent as lent
 use Rattle.lent.specs.Lent.{LentTables, HoldsRule, Ready}
 use Rattle.stepping.specs.Walk.{read_mon, Blameless}
-use Rattle.stepping.specs.Call.{Effect, accept, verdict_of, step_call, with}
+use Rattle.stepping.specs.Call.{Effect, verdict_of, step_call}
 use Rattle.stepping.specs.declared.fresh.Outcome.{Outcome}
 use Rattle.stepping.specs.declared.fresh.Outcome.TheVariants.{Made}
 use Rattle.stepping.specs.Fresh as Fresh
@@ -45,9 +43,9 @@ use Rattle.in_place.specs.InPlace.{memory_of, held_by, step_in, fresh_in}
 use Rattle.in_place_reports.specs.Calls.{ReadsAs}
 use Rattle.reports.specs.Calls.{compiled_tables}
 use Rattle.reports.proofs.Demand.{compiled_room}
-use Rattle.in_place_reports.proofs.Demand.{Started, started, own_table}
+use Rattle.in_place_reports.proofs.Demand.{started, own_table}
 use Rattle.watch.specs.declared.rule.Watched.{Watched}
-use Rattle.watch.specs.declared.rule.Watched.TheVariants.{Quiet, Report, Refused}
+use Rattle.watch.specs.declared.rule.Watched.TheVariants.{Quiet, Report}
 use Rattle.watch.specs.Watch.{root_culprit, on_verdict, on_outcome, on_compiled, watched, blank_monitor, compiled_watched, rule_watched}
 use Rattle.watch.specs.Reports.{NumberedFrom, truths_of, line_record, SaysReport}
 

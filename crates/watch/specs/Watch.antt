@@ -1,7 +1,7 @@
 -- What watching a rule of a book gives, with every call on the monitor a call in place (crates/in_place).
 --     watched       from a monitor, over step lines: the first report with its step and culprit, or the first refused step
---     ruleWatched   the rule is compiled, its monitor made and stepped over the step lines from a place of the text on
-use Rattle.std.specs.Prelude.{Bool, true, false, List, [], ◌∷◌, ℕ, ℤ, pos, get_or, replicate}
+--     rule_watched   the rule is compiled, its monitor made and stepped over the step lines from a place of the text on
+use Rattle.std.specs.Prelude.{Bool, true, false, List, ◌∷◌, ℕ, ℤ, pos, get_or, replicate}
 use Rattle.terms.specs.Limits.{node_cells, rule_nodes}
 use Rattle.book.specs.Book.{StepLine}
 use Rattle.reader.specs.Steps.{steps_from}
@@ -14,7 +14,6 @@ use Rattle.stepping.specs.declared.fresh.Outcome.TheVariants.{Made, Refused as N
 use Rattle.lent.specs.Lent.{LentTables, tables}
 use Rattle.in_place.specs.declared.ReferenceMonitor.{ReferenceMonitor}
 use Rattle.in_place.specs.declared.step.Advanced.{Advanced}
-use Rattle.in_place.specs.declared.fresh.Started.{Started}
 use Rattle.in_place.specs.InPlace.{step_in, fresh_in}
 use Rattle.watch.specs.declared.rule.Watched.{Watched}
 use Rattle.watch.specs.declared.rule.Watched.TheVariants.{Quiet, Report, Refused}
