@@ -1,7 +1,7 @@
 -- Two node tables' rows, compared one for one.
 --     Shows        the node in a row is that of a cell, and its signals stand in the formula table
 --     SameNode     the answer of comparing two nodes
-use Rattle.std.specs.Prelude.{Bool, true, false, ◌&&◌, List, ◌∷◌, ◌≡◌, ℕ, ◌≤◌}
+use Rattle.std.specs.Prelude.{Bool, true, false, ◌&&◌, List, [], ◌∷◌, ◌≡◌, ℕ, ◌≤◌}
 use Rattle.std.proofs.Math.Option.{some}
 use Rattle.formula.specs.Tree.{leaf_of, one_of, two_of, unknown}
 use Rattle.monitor.specs.declared.node.MonNode.{MonNode}

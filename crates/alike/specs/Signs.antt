@@ -2,7 +2,7 @@
 -- `!` of an implies just passed is still owed.
 --     rest         the signs from a cursor to an end
 --     LikenedAt    the answer of comparing the texts at two places
-use Rattle.std.specs.Prelude.{Bool, true, false, List, ◌∷◌, ◌++◌, ◌≡◌, ℕ, zero, suc, ◌+◌, ◌-◌, ◌≤◌, eqb, ltb, length, get_or}
+use Rattle.std.specs.Prelude.{Bool, true, false, List, [], ◌∷◌, ◌++◌, ◌≡◌, ℕ, zero, suc, ◌+◌, ◌-◌, ◌≤◌, eqb, ltb, length, get_or}
 use Rattle.terms.specs.Choice.{pick}
 use Rattle.terms.specs.Ops.{var_op, in_op, not_op, next_op, or_op, implies_op}
 use Rattle.formula.specs.Tree.{size}

@@ -1,7 +1,7 @@
 -- Document 01, "The listing": signal text compared with v, i, o taken as one letter.
 --     alike_atoms    two atoms are alike; only here are the letters dropped
 --     alike_text     two signals' texts agree, sign for sign
-use Rattle.std.specs.Prelude.{Bool, true, false, ◌&&◌, List, ◌∷◌, eqb}
+use Rattle.std.specs.Prelude.{Bool, true, false, ◌&&◌, List, [], ◌∷◌, eqb}
 use Rattle.formula.specs.Formula.{Atom, Formula, signal}
 use Rattle.formula.specs.Text.{Sign, atom, sign, signs}
 

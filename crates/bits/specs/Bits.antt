@@ -5,7 +5,7 @@
 --     spelled    so many bits from one on
 --     packed     bits as bytes; unused bits of the last one are zero. `packed_bit` (proofs/Packing.antt): bit k of them is bit k of the list
 --     ink_bit     bytes with bit k written, and those above it in its byte zero
-use Rattle.std.specs.Prelude.{Bool, true, ◌&&◌, cond, List, ◌∷◌, ℕ, zero, suc, ◌+◌, ◌*◌, ◌/◌, ◌%◌, ◌^◌, ◌≤◌, ◌<◌, eqb, length, get_or, set, take, drop}
+use Rattle.std.specs.Prelude.{Bool, true, ◌&&◌, cond, List, [], ◌∷◌, ℕ, zero, suc, ◌+◌, ◌*◌, ◌/◌, ◌%◌, ◌^◌, ◌≤◌, ◌<◌, eqb, length, get_or, set, take, drop}
 use Rattle.std.proofs.Math.Bool as bool
 use Rattle.formula.specs.Pure.{bit}
 use Rattle.plan.specs.Book.{listed}

@@ -6,7 +6,7 @@
 --     read       the whole: refusals 3 and 4, then the lines, then 10
 --     book_result what a caller is told of it
 -- A line is taken apart without any state (`parse`, crate `line`).
-use Rattle.std.specs.Prelude.{Bool, true, false, ◌&&◌, not, List, ◌∷◌, ◌++◌, ℕ, suc, ◌+◌, leb, ltb, eqb, length}
+use Rattle.std.specs.Prelude.{Bool, true, false, ◌&&◌, not, List, [], ◌∷◌, ◌++◌, ℕ, suc, ◌+◌, leb, ltb, eqb, length}
 use Rattle.std.proofs.Math.Option.{Option, none, some}
 use Rattle.terms.specs.Limits.{book_bytes, book_nodes, book_rules, book_slots, deepest, rule_nodes}
 use Rattle.terms.specs.Ops.{not_op, and_op}

@@ -2,7 +2,7 @@
 -- the list back. So a definition that refuses too much is shut out.
 use mathlib.Core.Path.{◌≡◌, refl, ap, ◌∙◌}
 use mathlib.Core.Bool.{true}
-use mathlib.Core.List.{List, ◌∷◌, ◌++◌, map}
+use mathlib.Core.List.{List, [], ◌∷◌, ◌++◌, map}
 use Prim.Native.Nat.{ℕ}
 use borrow.Author.Tests.{le-leb}
 use lib.ListN.{length}

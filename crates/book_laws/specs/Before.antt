@@ -1,7 +1,7 @@
 -- A book as document 01 alone reads it: without the words of the opening lines, and with document 01's own order of tests.
 --     read_before    what document 01 says of a text
 --     NoOpening     no line begins with `states` or `slot`
-use Rattle.std.specs.Prelude.{◌≡◌, false, List, ◌∷◌, ℕ, ◌+◌, leb, length, take}
+use Rattle.std.specs.Prelude.{◌≡◌, false, List, [], ◌∷◌, ℕ, ◌+◌, leb, length, take}
 use Rattle.std.proofs.Math.Option.{Option}
 use Rattle.terms.specs.Limits.{book_bytes}
 use Rattle.terms.specs.Choice.{pick}

@@ -2,7 +2,7 @@
 --     book_text    the text of opening lines, of a list of rules and of steps
 --     Limited     the limits within which such a list is a book
 --     ReadBack    what reading gives back
-use Rattle.std.specs.Prelude.{◌≡◌, true, List, ◌∷◌, ◌++◌, map, ℕ, ◌+◌, ◌^◌, ◌≤◌, ◌<◌, length}
+use Rattle.std.specs.Prelude.{◌≡◌, true, List, [], ◌∷◌, ◌++◌, map, ℕ, ◌+◌, ◌^◌, ◌≤◌, ◌<◌, length}
 use Rattle.terms.specs.Limits.{book_bytes, book_nodes, book_rules, book_slots, deepest, rule_nodes, slot_most, state_counts}
 use Rattle.number.specs.Digits.{decimal, hex_digits}
 use Rattle.formula.specs.Tree.{leaf_of, one_of, two_of, unknown, prefix, size, depth, all}

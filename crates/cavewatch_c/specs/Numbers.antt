@@ -4,7 +4,7 @@
 --     100       given, and the rule is newly broken
 --     101       given: there is no further step line
 -- Nothing goes to `found` after a refusal.
-use Rattle.std.specs.Prelude.{Bool, true, false, List, ◌∷◌, ℕ, ◌+◌, ◌*◌}
+use Rattle.std.specs.Prelude.{Bool, true, false, List, [], ◌∷◌, ℕ, ◌+◌, ◌*◌}
 use Rattle.std.proofs.Math.Option.{Option, none, some}
 use Rattle.result.specs.Result.{Result, given, refused}
 use Rattle.book.specs.Book.{count_in, BookResult, contents, refusal}

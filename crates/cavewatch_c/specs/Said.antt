@@ -1,5 +1,5 @@
 -- How a result is said: the number is the answer, the further numbers stand in front of what `found` held.
-use Rattle.std.specs.Prelude.{List, ◌∷◌, ◌≡◌, ℕ, ◌≤◌}
+use Rattle.std.specs.Prelude.{List, [], ◌∷◌, ◌≡◌, ℕ, ◌≤◌}
 use Rattle.std.proofs.lemmas.List.Edits.{sets}
 use Rattle.terms.specs.Limits.{book_bytes}
 use Rattle.reader.specs.declared.read.Answer.{Answer}

@@ -1,8 +1,8 @@
 -- The compiler's walk over words that have whole checks below them: `always`, `always-for`, `and`, `or`.
 use mathlib.Core.Path.{◌≡◌, refl, sym, ap, ap₂, subst, ◌∙◌}
 use mathlib.Core.Bool.{Bool, true, false}
-use mathlib.Core.Logic.{⊎_elim}
-use mathlib.Core.List.{List, ◌∷◌, ◌++◌}
+use mathlib.Core.Logic.{◌⊎◌, ⊎_elim}
+use mathlib.Core.List.{List, [], ◌∷◌, ◌++◌}
 use Prim.Native.Nat.{ℕ, ◌+◌, ◌-◌, ◌*◌, ◌≤◌, ◌<◌, ◌^◌}
 use native.Mathlib.Omega.{arith}
 use native.Mathlib.Nat.{pos_of_ne-zero}
@@ -18,7 +18,7 @@ use Rattle.formula.specs.Table.{node_at}
 use Rattle.formula.proofs.Cases.{below_or}
 use Rattle.formula.proofs.Trees.{size_pos}
 use Rattle.formula.proofs.Nodes.{number_of, binary_number}
-use Rattle.formula.proofs.Places.{one_there, two_there, in_ops}
+use Rattle.formula.proofs.Places.{one_there, two_there, in_ops, in_nums}
 use Rattle.monitor.specs.declared.range.AnchorRange.{AnchorRange}
 use Rattle.monitor.specs.declared.node.MonNode.{MonNode}
 use Rattle.monitor.specs.declared.node.MonNode.TheVariants.{And as AndNode, Or as OrNode}

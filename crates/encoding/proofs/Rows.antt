@@ -1,7 +1,7 @@
 -- Numbers of document 02, order 1: the state's bits for some counts, and a configuration of five states, two slots and one rule of three bits.
 use mathlib.Core.Path.{◌≡◌, refl}
 use mathlib.Core.Bool.{true}
-use mathlib.Core.List.{◌∷◌}
+use mathlib.Core.List.{[], ◌∷◌}
 use Prim.Native.Nat.{ℕ}
 use native.Mathlib.Omega.{arith}
 use Rattle.plan.specs.Width.{first_power, ceil_log2}

@@ -7,7 +7,7 @@
 --     bytes_for        bits rounded up to whole bytes. `bytes_least` (proofs/Sums.antt): the fewest that hold so many bits
 --     encoding_of      the numbers of a configuration
 --     opening         what a book may open with
-use Rattle.std.specs.Prelude.{Bool, ◌&&◌, List, ◌∷◌, ◌≡◌, ℕ, ◌+◌, ◌*◌, ◌/◌, ◌^◌, ◌≤◌, ◌<◌, leb, ltb, length, get_or, take}
+use Rattle.std.specs.Prelude.{Bool, ◌&&◌, List, [], ◌∷◌, ◌≡◌, ℕ, ◌+◌, ◌*◌, ◌/◌, ◌^◌, ◌≤◌, ◌<◌, leb, ltb, length, get_or, take}
 use Rattle.terms.specs.Limits.{book_slots, state_counts, slot_most}
 use Rattle.plan.specs.Width.{ceil_log2}
 use Rattle.plan.specs.Book.{bits_below}

@@ -5,7 +5,7 @@
 --     Adjoins    each part begins where the one before it ends
 --     Tiles      each bit of the whole is one part's, and no other's
 -- `encoding_tiles` (proofs/Spans.antt) is the theorem.
-use Rattle.std.specs.Prelude.{Bool, true, List, ◌∷◌, ◌++◌, ◌≡◌, ℕ, zero, suc, ◌+◌, ◌≤◌, ◌<◌, length, get_or}
+use Rattle.std.specs.Prelude.{Bool, true, List, [], ◌∷◌, ◌++◌, ◌≡◌, ℕ, zero, suc, ◌+◌, ◌≤◌, ◌<◌, length, get_or}
 use Rattle.terms.specs.Choice.{pick}
 use Rattle.plan.specs.Book.{properties, assumptions, first_bit}
 use Rattle.encoding.specs.Encoding.{state_bits_of, slot_first, monitors_base, encoding_of}

@@ -1,5 +1,5 @@
 -- Document 01, "The book": the cases of a formula (`Formula` of src/lang/ir.rs), and the numbers that stand for them in a table.
-use Rattle.std.specs.Prelude.{List, ◌∷◌, ℕ, get_or}
+use Rattle.std.specs.Prelude.{List, [], ◌∷◌, ℕ, get_or}
 use Rattle.formula.specs.Tree.{Tree, Token, leaf_of, one_of, two_of, unknown}
 
 -- an atom: `var`, `in` or `out` with its signal

@@ -1,5 +1,5 @@
 -- Document 01, "Nodes and alarms": a formula of atoms, not, and, or, implies only is pure; a pure formula is a signal.
-use Rattle.std.specs.Prelude.{Bool, true, false, ◌&&◌, ◌||◌, List, ◌∷◌, ℕ, ◌/◌, ◌%◌, ◌^◌, eqb, ltb}
+use Rattle.std.specs.Prelude.{Bool, true, false, ◌&&◌, ◌||◌, List, [], ◌∷◌, ℕ, ◌/◌, ◌%◌, ◌^◌, eqb, ltb}
 use Rattle.std.proofs.Math.Bool as bool
 use Rattle.terms.specs.Choice.{pick}
 use Rattle.terms.specs.Ops.{or_op, implies_op}

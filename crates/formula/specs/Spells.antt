@@ -2,7 +2,7 @@
 --     run      the tokens of n places from i on
 --     Spells   the tokens from i on are the tree's, in prefix order
 --     nodes_at  how many nodes the tree at i has, read within n places: the measure of the walks over a table
-use Rattle.std.specs.Prelude.{◌≡◌, List, ◌∷◌, ℕ, suc, zero, ◌+◌}
+use Rattle.std.specs.Prelude.{◌≡◌, List, [], ◌∷◌, ℕ, suc, zero, ◌+◌}
 use Rattle.formula.specs.Tree.{Tree, leaf, one, two, Token, leaf_of, one_of, two_of, unknown, size}
 
 module _ {L O T : Type 0} where

@@ -1,7 +1,7 @@
 -- Document 01, "The listing": a formula's prefix text, as a list of signs. A sign is an atom, or a byte that stands for a word.
 --     signs      the text of a signal, in which implies is `|!`
 --     operand    the text of an operand, in which implies is `>`
-use Rattle.std.specs.Prelude.{List, ◌∷◌, ◌++◌, ℕ}
+use Rattle.std.specs.Prelude.{List, [], ◌∷◌, ◌++◌, ℕ}
 use Rattle.formula.specs.Tree.{leaf, one, two}
 use Rattle.formula.specs.Formula.{Atom, Formula, not, next, always, eventually, always_for, within, and, or, implies, until}
 

@@ -3,7 +3,7 @@
 --     tree_of      the tree that a list of tokens is, if it is one
 --     size, depth    the number of nodes; the longest way down, the root counted as 1
 -- `tree_of_inv` and `tree_of_prefix` (proofs/Trees.antt) say that `tree_of` finds a tree exactly where the list is that tree's tokens.
-use Rattle.std.specs.Prelude.{Bool, ◌&&◌, List, ◌∷◌, ◌++◌, ℕ, ◌+◌, max}
+use Rattle.std.specs.Prelude.{Bool, ◌&&◌, List, [], ◌∷◌, ◌++◌, ℕ, ◌+◌, max}
 use Rattle.std.proofs.Math.Option.{Option, none, some}
 
 pub data Tree (L O T : Type 0) : Type 0 where

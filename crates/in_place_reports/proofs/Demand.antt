@@ -1,7 +1,7 @@
 -- Demand 3, for the calls on a monitor struct in place and over node structs: each is the call on slices (`step_call`) on what the struct holds, so the laws of
 -- single calls on slices (`lawful`, crate reports) are its laws.
 use mathlib.Core.Bool.{Bool}
-use mathlib.Core.List.{List, ◌∷◌}
+use mathlib.Core.List.{List, [], ◌∷◌}
 use mathlib.Core.Option.{some}
 use mathlib.Core.Path.{◌≡◌, refl, sym, ap, subst, ◌∙◌}
 use Prim.Native.Nat.{ℕ, ◌≤◌}

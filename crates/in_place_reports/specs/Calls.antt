@@ -2,7 +2,7 @@
 -- `in_place::step::step` and `step_table` are equality with `step_in`, of which the machines are made.
 --     in_place, DemandInPlace      the calls on plain tables: `compile_formula`, and `fresh` and `step` in place
 --     on_tables, DemandOnTables    the calls over node structs: `compile_table`, `fresh_table`, `step_table`
-use Rattle.std.specs.Prelude.{true, List, ◌∷◌, ◌≡◌, ℕ}
+use Rattle.std.specs.Prelude.{true, List, [], ◌∷◌, ◌≡◌, ℕ}
 use Rattle.std.proofs.Math.Option.{some}
 use Rattle.result.specs.Result.{given}
 use Rattle.formula.specs.Formula.{Formula}

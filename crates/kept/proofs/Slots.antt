@@ -1,6 +1,6 @@
 -- What a rule keeps and crate plan's layout: each node keeps the bits of its piece, so the bits of all are the rule's.
 use mathlib.Core.Path.{◌≡◌, refl, sym, ap, ap₂, ◌∙◌}
-use mathlib.Core.List.{List, ◌∷◌, ◌++◌}
+use mathlib.Core.List.{List, [], ◌∷◌, ◌++◌}
 use Prim.Native.Nat.{zero, suc, ◌+◌}
 use native.Mathlib.Omega.{arith}
 use Rattle.monitor.specs.Mon.{Check, range_check, delayed_check, obligation, Mon, check, And, Or, node_of}

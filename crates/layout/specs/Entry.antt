@@ -4,7 +4,7 @@
 --     node_slot_of    a node's own bits and where they begin, counted from the rule's first bit
 --     layout_of      a book: the numbers of the whole, and the outputs afterwards, which are the first bits and the bits of the rules and the
 --                   first bits of the slots
-use Rattle.std.specs.Prelude.{Bool, false, ◌&&◌, not, List, ◌∷◌, ◌≡◌, ℕ, ◌≤◌, ◌<◌, leb, ltb, eqb, length, get_or, take}
+use Rattle.std.specs.Prelude.{Bool, false, ◌&&◌, not, List, [], ◌∷◌, ◌≡◌, ℕ, ◌≤◌, ◌<◌, leb, ltb, eqb, length, get_or, take}
 use Rattle.std.proofs.Math.Option.{Option, none, some}
 use Rattle.std.proofs.lemmas.List.Edits.{sets}
 use Rattle.terms.specs.Limits.{book_nodes, book_rules, book_slots, state_counts, node_cells}

@@ -1,6 +1,6 @@
 -- A word's length and letters by its number.
 use mathlib.Core.Path.{◌≡◌, sym, ap}
-use mathlib.Core.List.{List, ◌∷◌}
+use mathlib.Core.List.{List, [], ◌∷◌}
 use Prim.Native.Nat.{ℕ, zero, suc, ◌+◌, ◌≤◌}
 use native.Mathlib.Omega.{arith}
 use lib.ListN.{length, get_or}

@@ -2,7 +2,7 @@
 --     Line       a line's content; or its sort and what is wrong about it; or no line of a book
 --     content    what the fields behind a word say: all that there is to say of a word but its spelling
 --     parse      the content of the line's fields by its first
-use Rattle.std.specs.Prelude.{Bool, true, ◌&&◌, List, ◌∷◌, ℕ, zero, suc, leb, ltb, eqb, length}
+use Rattle.std.specs.Prelude.{Bool, true, ◌&&◌, List, [], ◌∷◌, ℕ, zero, suc, leb, ltb, eqb, length}
 use Rattle.terms.specs.Limits.{label_bytes, signals, slot_most, state_counts, steps}
 use Rattle.terms.specs.Kinds.{property_kind, assumption_kind, kinds}
 use Rattle.terms.specs.Choice.{pick}

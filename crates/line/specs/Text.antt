@@ -1,7 +1,7 @@
 -- Runs of bytes: lines end in LF, fields are parted by one tab.
 --     parts c e l      l cut at each byte c; what stands past the last c goes in front of the first of e, if there is one
 --     lines, fields    of a text; of a line
-use Rattle.std.specs.Prelude.{◌≡◌, List, ◌∷◌, ℕ, zero, suc, ◌≤◌, eqb, length}
+use Rattle.std.specs.Prelude.{◌≡◌, List, [], ◌∷◌, ℕ, zero, suc, ◌≤◌, eqb, length}
 use Rattle.terms.specs.Choice.{pick}
 
 -- a byte in front of the first part, if there is one

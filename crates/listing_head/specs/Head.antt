@@ -2,7 +2,7 @@
 --     rule_text     a rule's lines: `rule`, `node`, `live`, `owe`
 --     rules_text    those of all rules, in book order
 use Rattle.std.proofs.Math.Bool as bool
-use Rattle.std.specs.Prelude.{List, ◌++◌, ℕ, zero, suc}
+use Rattle.std.specs.Prelude.{List, [], ◌++◌, ℕ, zero, suc}
 use Rattle.terms.specs.Choice.{pick}
 use Rattle.liveness.specs.Split.{Obligation, Answer, none as no_split, parts, refused as split-refused, split_of}
 use Rattle.text.specs.Tape.{joined}

@@ -1,6 +1,6 @@
 -- The `plan` line, from what the code writes one behind the other, and one such line.
 use mathlib.Core.Path.{◌≡◌, refl}
-use mathlib.Core.List.{◌∷◌}
+use mathlib.Core.List.{[], ◌∷◌}
 use Rattle.number.specs.Digits.{digits, decimal}
 use Rattle.text.specs.Tape.{Tape, Wrote}
 use Rattle.encoding.specs.declared.ConfigEncoding.{ConfigEncoding}

@@ -1,6 +1,6 @@
 -- Lines of document 01's whole case.
 use mathlib.Core.Path.{◌≡◌, refl}
-use mathlib.Core.List.{◌∷◌}
+use mathlib.Core.List.{[], ◌∷◌}
 use Rattle.formula.specs.Tree.{leaf}
 use Rattle.formula.specs.Formula.{var}
 use Rattle.formula.specs.Text.{signs_by}

@@ -1,6 +1,6 @@
 -- The `rule` line, from what the code writes one behind the other.
 use mathlib.Core.Path.{◌≡◌, refl, ap}
-use mathlib.Core.List.{List, ◌∷◌}
+use mathlib.Core.List.{List, [], ◌∷◌}
 use Prim.Native.Nat.{ℕ, zero, suc}
 use Rattle.number.specs.Digits.{digits, decimal}
 use Rattle.line.specs.Line.{kind_byte}

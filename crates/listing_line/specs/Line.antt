@@ -1,5 +1,5 @@
 -- Document 01, "The listing": a line is fields parted by one tab, and ends in LF. Absent is `-`.
-use Rattle.std.specs.Prelude.{List, ◌∷◌, ◌++◌, ℕ}
+use Rattle.std.specs.Prelude.{List, [], ◌∷◌, ◌++◌, ℕ}
 
 unfoldable pub line : List (List ℕ) → List ℕ
 line [] = 10 ∷ []

@@ -1,7 +1,7 @@
 -- Document 01, "The listing": the `node` lines of a compiled rule: id, form (C range, D delayed, B obligation, A and, O or), bound, range start,
 -- range end (`*` open), first signal, second signal. Absent is `-`; joined nodes have it in the five last fields. For example
 --     node 0 B 3 0 * v0 v1
-use Rattle.std.specs.Prelude.{◌≡◌, List, ◌∷◌, ◌++◌, ℕ, ◌+◌}
+use Rattle.std.specs.Prelude.{◌≡◌, List, [], ◌∷◌, ◌++◌, ℕ, ◌+◌}
 use Rattle.formula.specs.Tree.{leaf_of, one_of, two_of, unknown}
 use Rattle.formula.specs.Spells.{Spells}
 use Rattle.formula.specs.Table.{node_at}

@@ -1,6 +1,6 @@
 -- Document 02, order 1: the `plan` line: state, slot, monitor and total bits, and bytes. For example
 --     plan 3 8 5 16 2
-use Rattle.std.specs.Prelude.{List, ◌∷◌, ℕ}
+use Rattle.std.specs.Prelude.{List, [], ◌∷◌, ℕ}
 use Rattle.number.specs.Digits.{decimal}
 use Rattle.encoding.specs.declared.ConfigEncoding.{ConfigEncoding}
 use Rattle.listing_line.specs.Line.{line}

@@ -1,7 +1,7 @@
 -- Document 01, "The listing": the `rule` line: number from 0, label, kind, 0 or compile refusal, first bit, bit count, number of the first earlier
 -- alike rule. A rule that does not compile has `-` in the three last fields. For example
 --     rule 0 trip P 0 0 3 -
-use Rattle.std.specs.Prelude.{List, ◌∷◌, ℕ}
+use Rattle.std.specs.Prelude.{List, [], ◌∷◌, ℕ}
 use Rattle.number.specs.Digits.{decimal}
 use Rattle.terms.specs.Words.{word_rule}
 use Rattle.words.specs.Word.{spelling_of}

@@ -2,7 +2,7 @@
 --     entry_text      what an entry adds to the text
 --     entries_text    what the first n entries add
 -- `entries_text_lem` (proofs/Entries.antt): over the cells of a skeleton that stands in the table this is the skeleton's text.
-use Rattle.std.specs.Prelude.{◌≡◌, true, List, ◌∷◌, ◌++◌, ℕ, zero, suc, ◌+◌, ◌*◌, ◌≤◌, ◌<◌, ltb, length, get_or, drop}
+use Rattle.std.specs.Prelude.{◌≡◌, true, List, [], ◌∷◌, ◌++◌, ℕ, zero, suc, ◌+◌, ◌*◌, ◌≤◌, ◌<◌, ltb, length, get_or, drop}
 use Rattle.terms.specs.Choice.{pick}
 use Rattle.terms.specs.Ops.{words}
 use Rattle.formula.specs.Tree.{leaf_of}

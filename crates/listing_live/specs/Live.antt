@@ -1,5 +1,5 @@
 -- Document 01, "The listing": `live`, `none` or 0 or refusal, skeleton; then `owe` lines: index, E with one operand or U with two. Absent is `-`.
-use Rattle.std.specs.Prelude.{List, ◌∷◌, ◌++◌, ℕ, ◌+◌}
+use Rattle.std.specs.Prelude.{List, [], ◌∷◌, ◌++◌, ℕ, ◌+◌}
 use Rattle.liveness.specs.Split.{Obligation, E, U, Answer, none, parts, refused}
 use Rattle.liveness.specs.Text.{Mark, written, number, skeleton_text}
 use Rattle.number.specs.Digits.{decimal}

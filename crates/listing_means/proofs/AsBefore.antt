@@ -1,6 +1,6 @@
 -- EVERY OLD BOOK LISTS AS IT DID, WITH `plan` PUT IN.
 use mathlib.Core.Path.{◌≡◌, refl, sym, ap, ap₂, subst, ◌∙◌}
-use mathlib.Core.List.{List, ◌++◌}
+use mathlib.Core.List.{List, [], ◌++◌}
 use Prim.Native.Nat.{ℕ, ◌+◌}
 use lib.ListN.{length}
 use Rattle.plan.specs.Width.{first_power, ceil_log2}

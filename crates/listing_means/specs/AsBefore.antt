@@ -1,7 +1,7 @@
 -- The listing of a text without opening lines, beside what document 01 alone lists: the same lines, with `plan` put in before the reports.
 --     lists_before    document 01's listing: first bits from bit 0, and no `plan`
 --     PlanPutIn      one text is another with a line put in
-use Rattle.std.specs.Prelude.{◌≡◌, List, ◌++◌, ℕ, length}
+use Rattle.std.specs.Prelude.{◌≡◌, List, [], ◌++◌, ℕ, length}
 use Rattle.book.specs.Book.{Book, Outcome, accepted, refused}
 use Rattle.listing_line.specs.Plan.{plan_line}
 use Rattle.listing_rules.specs.Rules.{encoding_for}

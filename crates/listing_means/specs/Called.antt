@@ -1,6 +1,6 @@
 -- Step lines of any numbers, with gaps, repeats or steps back: each line is one call of a rule's monitor. What is reported of a rule then depends
 -- on that rule and the step lines alone.
-use Rattle.std.specs.Prelude.{true, false, List, ◌∷◌, ◌≡◌, ℕ, zero, suc, ◌<◌, ℤ, length}
+use Rattle.std.specs.Prelude.{true, false, List, [], ◌∷◌, ◌≡◌, ℕ, zero, suc, ◌<◌, ℤ, length}
 use Rattle.monitor.specs.Mon.{Mon}
 use Rattle.meaning.specs.State.{State, failed, culprit, step}
 use Rattle.book.specs.Book.{StepLine}

@@ -5,7 +5,7 @@
 --     Reported        a rule has a report
 --     Ascending       reports by step line and then by rule
 --     Listed          all of it, of a book's listing
-use Rattle.std.specs.Prelude.{true, List, ◌∷◌, ◌++◌, ◌⊎◌, ◌↔◌, ◌≡◌, ℕ, suc, ◌≤◌, ◌<◌, length, get_or}
+use Rattle.std.specs.Prelude.{true, List, [], ◌∷◌, ◌++◌, ◌⊎◌, ◌↔◌, ◌≡◌, ℕ, suc, ◌≤◌, ◌<◌, length, get_or}
 use Rattle.meaning.specs.Alarm.{Record, Alarm, First}
 use Rattle.meaning.specs.Culprit.{Culprit}
 use Rattle.meaning.specs.Logic.{Fails}

@@ -1,5 +1,5 @@
 -- The `node` lines of a compiled rule are written row by row from its node table.
-use Rattle.std.specs.Prelude.{◌≡◌, List, ◌∷◌, ℕ, ◌+◌}
+use Rattle.std.specs.Prelude.{◌≡◌, List, [], ◌∷◌, ℕ, ◌+◌}
 use Rattle.std.proofs.Math.Option.{some}
 use Rattle.monitor.specs.Mon.{Mon}
 use Rattle.monitor.specs.Table.{Cell, compiled_of}

@@ -1,6 +1,6 @@
 -- The `report`, `end` and `refused` lines, from what the code writes one behind the other.
 use mathlib.Core.Path.{ap, ap₂, subst, ◌∙◌}
-use mathlib.Core.List.{List, ◌∷◌, ◌++◌}
+use mathlib.Core.List.{List, [], ◌∷◌, ◌++◌}
 use Prim.Native.Nat.{ℕ}
 use mir.Syntax.{w64}
 use mir.Val.{SFits, to_z, of_z}

@@ -1,6 +1,6 @@
 -- Lines of document 01's whole case, and a refused book's line.
 use mathlib.Core.Path.{◌≡◌, refl}
-use mathlib.Core.List.{◌∷◌}
+use mathlib.Core.List.{[], ◌∷◌}
 use lib.IntN.{pos}
 use Rattle.number.specs.Digits.{digits}
 use Rattle.text.specs.Tape.{signed}

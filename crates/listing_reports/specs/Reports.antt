@@ -1,7 +1,7 @@
 -- Document 01, "The listing": the reports of a book's rules, and what `end` counts of them.
 --     reports     by step line and then rule, each rule's monitor being stepped once for each step line
 --     end_count    the number on the line `end`, from the reports and the rules' kinds
-use Rattle.std.specs.Prelude.{Bool, ◌&&◌, List, ◌∷◌, ◌++◌, ℕ, zero, suc, ℤ, length}
+use Rattle.std.specs.Prelude.{Bool, ◌&&◌, List, [], ◌∷◌, ◌++◌, ℕ, zero, suc, ℤ, length}
 use Rattle.terms.specs.Choice.{pick}
 use Rattle.meaning.specs.State.{State, initial_state, step, culprit, newly_failed}
 use Rattle.book.specs.Book.{StepLine}

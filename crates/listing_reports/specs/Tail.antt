@@ -1,7 +1,7 @@
 -- Document 01, "The listing": the lines behind those of the rules, and the one line of a refused book.
 --     tail_text       the `report` lines and `end`
 --     refused_line    `refused`
-use Rattle.std.specs.Prelude.{List, ◌∷◌, ◌++◌, ℕ}
+use Rattle.std.specs.Prelude.{List, [], ◌∷◌, ◌++◌, ℕ}
 use Rattle.number.specs.Digits.{decimal}
 use Rattle.text.specs.Tape.{signed}
 use Rattle.listing_line.specs.Line.{line}

@@ -1,6 +1,6 @@
 -- The rules of a book, numbered from 0 in book order, and what document 01 says of each: its compiled node or its refusal, its first bit and its
 -- bits, the first earlier rule that is alike. The monitors begin at bit `base` (document 02, order 1).
-use Rattle.std.specs.Prelude.{Bool, true, false, ◌&&◌, List, ◌∷◌, ℕ, zero, suc, eqb}
+use Rattle.std.specs.Prelude.{Bool, true, false, ◌&&◌, List, [], ◌∷◌, ℕ, zero, suc, eqb}
 use Rattle.terms.specs.Choice.{pick}
 use Rattle.formula.specs.Formula.{Formula}
 use Rattle.monitor.specs.Mon.{Mon}

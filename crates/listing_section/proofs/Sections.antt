@@ -1,7 +1,7 @@
 -- The lines of a rule, one after the other.
 use mathlib.Core.Bool.{Bool, true, false}
 use mathlib.Core.Bool as bool
-use mathlib.Core.List.{List, ◌∷◌, ◌++◌}
+use mathlib.Core.List.{List, [], ◌∷◌, ◌++◌}
 use mathlib.Core.Option.{some}
 use mathlib.Core.Path.{◌≡◌, refl, sym, ap, subst, ◌∙◌}
 use Prim.Native.Nat.{ℕ, ◌+◌, ◌*◌, ◌≤◌}

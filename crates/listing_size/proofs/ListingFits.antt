@@ -1,7 +1,7 @@
 -- THE SIZE OF A LISTING. The listing of any text, a book or not, fits in `listing_room` bytes.
 --     listing_most    a sharper bound: 211 bytes a rule, 104 a formula node, 110 for `plan`, 71 a report, 25 for the last line
 use mathlib.Core.Path.{◌≡◌, refl, ap}
-use mathlib.Core.List.{List, ◌∷◌, ◌++◌}
+use mathlib.Core.List.{List, [], ◌∷◌, ◌++◌}
 use Prim.Native.Nat.{ℕ, zero, suc, ◌+◌, ◌*◌, ◌≤◌, ◌<◌}
 use native.Mathlib.Omega.{arith}
 use native.Mathlib.Numerals.{add-one}

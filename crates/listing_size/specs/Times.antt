@@ -1,5 +1,5 @@
 -- How often a list of reports names a rule: at most once, by `each_once` (proofs/ReportOnce.antt).
-use Rattle.std.specs.Prelude.{List, ◌∷◌, ℕ, ◌+◌, eqb}
+use Rattle.std.specs.Prelude.{List, [], ◌∷◌, ℕ, ◌+◌, eqb}
 use Rattle.terms.specs.Choice.{pick}
 use Rattle.listing_reports.specs.Reports.{Report}
 

@@ -1,7 +1,7 @@
 -- Worked listings: books and their listings as document 01 gives them or has them follow from its text, line by line. `\t` is a tab.
 --     whole      the whole case
 --     others     layout, likeness and order of reports; a joined node; a rule that does not compile; liveness; refused books; the empty book
-use Rattle.std.specs.Prelude.{◌≡◌, List, ◌∷◌, ◌++◌, ℕ}
+use Rattle.std.specs.Prelude.{◌≡◌, List, [], ◌∷◌, ◌++◌, ℕ}
 use Prim.Native.Char.{code}
 use Prim.Native.String.{String, [] as no_text, ◌∷◌ as before}
 use Rattle.listing_text.specs.Listing.{listing}

@@ -1,6 +1,6 @@
 -- The steps that stand in a text: each number is below 2^63, and there are no more of them than bytes.
 use mathlib.Core.Path.{◌≡◌, ap, subst}
-use mathlib.Core.List.{List, ◌∷◌}
+use mathlib.Core.List.{List, [], ◌∷◌}
 use mathlib.Core.Option.{Option, none, some}
 use Prim.Native.Nat.{ℕ, suc, ◌≤◌, ◌<◌}
 use native.Mathlib.Omega.{arith}

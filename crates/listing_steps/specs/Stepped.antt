@@ -1,5 +1,5 @@
 -- What stepping asks and leaves: of one rule, of one step line, of all step lines.
-use Rattle.std.specs.Prelude.{Bool, List, ◌∷◌, ◌≡◌, ℕ, ◌+◌, ◌≤◌, ◌<◌, ltb, length}
+use Rattle.std.specs.Prelude.{Bool, List, [], ◌∷◌, ◌≡◌, ℕ, ◌+◌, ◌≤◌, ◌<◌, ltb, length}
 use Rattle.terms.specs.Limits.{book_bytes, book_rules, steps}
 use Rattle.terms.specs.Choice.{pick}
 use Rattle.monitor.specs.Mon.{Mon, count}

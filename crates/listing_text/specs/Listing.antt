@@ -1,6 +1,6 @@
 -- Document 01, "The listing": from a book's bytes to the bytes that cavewatch prints.
 --     listing    rules, `plan` (document 02, order 1), reports, `end`; or the one `refused` line
-use Rattle.std.specs.Prelude.{List, ◌++◌, ℕ, length, get_or}
+use Rattle.std.specs.Prelude.{List, [], ◌++◌, ℕ, length, get_or}
 use Rattle.std.proofs.Math.Option.{Option, none, some}
 use Rattle.formula.specs.Tree.{leaf}
 use Rattle.formula.specs.Formula.{Formula, var}

@@ -4,7 +4,7 @@
 --     skeleton_of     the and, or, implies, not of a formula; each atom is a safety leaf, each `eventually` or `until` the next obligation
 --     obligations_of  its `eventually` and `until`, left to right
 --     split_of        the answer for a rule
-use Rattle.std.specs.Prelude.{Bool, true, false, ◌||◌, List, ◌∷◌, ◌++◌, ℕ, ◌+◌, length}
+use Rattle.std.specs.Prelude.{Bool, true, false, ◌||◌, List, [], ◌∷◌, ◌++◌, ℕ, ◌+◌, length}
 use Rattle.formula.specs.Tree.{leaf, one, two, size}
 use Rattle.formula.specs.Formula.{Atom, Formula, not, next, always, eventually, always_for, within, and, or, implies, until}
 use Rattle.formula.specs.Pure.{pure, unless}

@@ -1,6 +1,6 @@
 -- Document 01, "The listing": the text of a skeleton and of an obligation's operands, as lists of signs. Implies is `>`, `s` precedes each
 -- atom of a skeleton, and `#k` is obligation k.
-use Rattle.std.specs.Prelude.{List, ◌∷◌, ◌++◌, ℕ}
+use Rattle.std.specs.Prelude.{List, [], ◌∷◌, ◌++◌, ℕ}
 use Rattle.formula.specs.Text.{Sign, atom, sign, operand}
 use Rattle.liveness.specs.Split.{Obligation, E, U, Skeleton, safety, owed, Not, And, Or, Implies}
 

@@ -2,7 +2,7 @@
 --     FalseAlarm    the rule is true at step 0, and yet reported
 --     Missing       it is false at step 0, and no alarm ever holds
 use mathlib.Core.Path.{◌≡◌, refl}
-use mathlib.Core.List.{List, ◌∷◌}
+use mathlib.Core.List.{List, [], ◌∷◌}
 use mathlib.Core.Logic.{inl, inr}
 use mathlib.Core.Option.{some}
 use Prim.Native.Nat.{ℕ, zero, suc, ◌≤◌}

@@ -5,7 +5,7 @@
 --     record_of            the truths of the accepted calls in their order
 --     Over                they are the first words of a record
 --     first_report         stepping over a list of words up to the first report
-use Rattle.std.specs.Prelude.{cond, List, ◌∷◌, ◌⊎◌, ◌≡◌, ℕ, suc, ◌<◌, ℤ, length, get_or}
+use Rattle.std.specs.Prelude.{cond, List, [], ◌∷◌, ◌⊎◌, ◌≡◌, ℕ, suc, ◌<◌, ℤ, length, get_or}
 use Rattle.std.proofs.Math.Option.{Option, none, some}
 use Rattle.terms.specs.Limits as limits
 use Rattle.monitor.specs.Mon.{Mon}

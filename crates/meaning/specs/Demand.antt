@@ -4,7 +4,7 @@
 --     Demand    the whole claim: a rule that compiles, from its fresh monitor on
 -- Alarms and culprits are read from a record of truths alone (Alarm.antt, Culprit.antt), temporal logic stands in Logic.antt, plain rules in
 -- Plain.antt, lists of calls in Calls.antt, and what a state says of the steps so far in Meaning.antt.
-use Rattle.std.specs.Prelude.{List, ◌∷◌, ◌++◌, ◌↔◌, ◌≡◌, ℕ, ◌≤◌, ◌<◌}
+use Rattle.std.specs.Prelude.{List, [], ◌∷◌, ◌++◌, ◌↔◌, ◌≡◌, ℕ, ◌≤◌, ◌<◌}
 use Rattle.std.proofs.Math.Option.{Option, some}
 use Rattle.terms.specs.Limits as limits
 use Rattle.formula.specs.Formula.{Formula}

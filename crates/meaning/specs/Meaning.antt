@@ -3,7 +3,7 @@
 --     Judged    many words at once
 --     PlainMeans   a plain rule over an endless record
 --     Ticks, Closes, Opens   what one call leaves of an obligation's window, from any well-shaped state
-use Rattle.std.specs.Prelude.{Bool, true, false, ◌↔◌, ◌≡◌, ℕ, ◌+◌, ◌≤◌, ◌<◌, ℤ, pos}
+use Rattle.std.specs.Prelude.{Bool, true, false, [], ◌↔◌, ◌≡◌, ℕ, ◌+◌, ◌≤◌, ◌<◌, ℤ, pos}
 use Rattle.std.proofs.Math.Bool as bool
 use Rattle.std.proofs.Math.Option.{Option, none, some}
 use Rattle.monitor.specs.declared.range.AnchorRange.{AnchorRange}

@@ -1,7 +1,7 @@
 -- Document 01, "Trips to try": the starred trips that concern stepping, as rows of one table.
 --     Trip      a rule, its words in order, and the report that is expected: its step and culprit, or none
 --     kept      the rule compiles, and its monitor stepped from fresh over the words gives that report
-use Rattle.std.specs.Prelude.{Bool, true, false, ◌&&◌, List, ◌∷◌, ℕ, eqb, ℤ, pos, negsuc}
+use Rattle.std.specs.Prelude.{Bool, true, false, ◌&&◌, List, [], ◌∷◌, ℕ, eqb, ℤ, pos, negsuc}
 use Rattle.std.proofs.Math.Option.{Option, none, some}
 use Rattle.formula.specs.Tree.{leaf, one, two}
 use Rattle.formula.specs.Formula.{Formula, var, next, always, always_for, within, or, implies}

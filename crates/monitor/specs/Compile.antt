@@ -2,7 +2,7 @@
 -- src/codegen/monitor.rs).
 --     faults    the refusals that apply, in the order of the walk: parents first, left before right. The first is the answer
 --     node      the node that a formula gives where no refusal applies
-use Rattle.std.specs.Prelude.{Bool, true, false, List, ◌∷◌, ◌++◌, ℕ, ◌+◌, ◌-◌, eqb}
+use Rattle.std.specs.Prelude.{Bool, true, false, List, [], ◌∷◌, ◌++◌, ℕ, ◌+◌, ◌-◌, eqb}
 use Rattle.formula.specs.Tree.{leaf, one, two, size}
 use Rattle.formula.specs.Formula.{Formula, not, next, always, eventually, always_for, within, and, or, implies, until}
 use Rattle.formula.specs.Pure.{pure, unless}

@@ -1,5 +1,5 @@
 -- A compiled rule as a tree of nodes (`MonNode` of src/codegen/monitor.rs), and the numbers that hold it in a table.
-use Rattle.std.specs.Prelude.{List, ◌∷◌, ◌++◌, ℕ, ◌+◌, ltb}
+use Rattle.std.specs.Prelude.{List, [], ◌∷◌, ◌++◌, ℕ, ◌+◌, ltb}
 use Rattle.terms.specs.Choice.{pick}
 use Rattle.terms.specs.Ops.{or_op}
 use Rattle.terms.specs.Forms.{range_form, delayed_form, obligation_form, and_form, or_form}

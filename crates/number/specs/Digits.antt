@@ -1,7 +1,7 @@
 -- The texts of numbers, in a book and in a listing. `decimal_back` and `hex_back` (book_laws/proofs/Texts.antt): reading them gives the numbers.
 --     decimal      a number below 2^64 in decimal digits
 --     hex_digits    the low digits of a number in base 16
-use Rattle.std.specs.Prelude.{List, ◌∷◌, ◌++◌, ℕ, zero, suc, ◌+◌, ◌/◌, ◌%◌, ltb}
+use Rattle.std.specs.Prelude.{List, [], ◌∷◌, ◌++◌, ℕ, zero, suc, ◌+◌, ◌/◌, ◌%◌, ltb}
 use Rattle.terms.specs.Choice.{pick}
 
 -- at most k decimal digits

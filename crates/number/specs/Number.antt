@@ -2,7 +2,7 @@
 --     places      the sum of the digits' places in a base
 --     decimal_of, hex_of      the value that bytes write, or that they write none that fits
 -- `hex_fits` (proofs/Numbers.antt): sixteen hexadecimal digits always fit.
-use Rattle.std.specs.Prelude.{◌≡◌, Bool, true, false, ◌&&◌, not, List, ◌∷◌, ℕ, ◌+◌, ◌-◌, ◌*◌, ◌^◌, ◌≤◌, ltb, eqb, length}
+use Rattle.std.specs.Prelude.{◌≡◌, Bool, true, false, ◌&&◌, not, List, [], ◌∷◌, ℕ, ◌+◌, ◌-◌, ◌*◌, ◌^◌, ◌≤◌, ltb, eqb, length}
 use Rattle.terms.specs.Choice.{pick}
 use Rattle.number.specs.declared.Number.{Number}
 use Rattle.number.specs.declared.Number.TheVariants.{Value, Wrong}

@@ -1,7 +1,7 @@
 -- Document 01, "Layout", over a book: properties come first, then assumptions, each in book order; rules that do not compile are skipped. The
 -- first rule's bits begin at bit `base`: 0 in document 01, behind the state and the slots in document 02, order 1.
 -- A book is given by what is known of rule r: whether it is a property, whether it compiles, and its bits.
-use Rattle.std.specs.Prelude.{Bool, true, false, ◌&&◌, not, List, ◌∷◌, ◌++◌, ◌≡◌, ℕ, zero, suc, ◌+◌, ◌*◌, ◌≤◌, ◌<◌, eqb, length, get_or, set}
+use Rattle.std.specs.Prelude.{Bool, true, false, ◌&&◌, not, List, [], ◌∷◌, ◌++◌, ◌≡◌, ℕ, zero, suc, ◌+◌, ◌*◌, ◌≤◌, ◌<◌, eqb, length, get_or, set}
 use Rattle.std.proofs.lemmas.List.Edits.{sets}
 use Rattle.terms.specs.Limits.{book_rules}
 use Rattle.terms.specs.Choice.{pick}

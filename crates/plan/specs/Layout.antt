@@ -2,7 +2,7 @@
 --     pieces    the bits of each node of a compiled rule, in prefix order
 --     bits      those of the whole rule
 --     slot_in    a node's own bits and where they begin, counted from the rule's first bit
-use Rattle.std.specs.Prelude.{List, ◌∷◌, ◌++◌, ℕ, zero, suc, ◌+◌, get_or, take}
+use Rattle.std.specs.Prelude.{List, [], ◌∷◌, ◌++◌, ℕ, zero, suc, ◌+◌, get_or, take}
 use Rattle.monitor.specs.Mon.{Check, range_check, delayed_check, obligation, Mon, check, And, Or}
 use Rattle.plan.specs.Width.{width}
 use Rattle.plan.specs.declared.layout.Piece.{Piece}

@@ -1,6 +1,6 @@
 -- The same from the numbers of a node table: column 0 of a row is the form, column 1 the bound. `rows_pieces` (proofs/Rows.antt): where a part of
 -- the table is a compiled rule, its rows give that rule's pieces.
-use Rattle.std.specs.Prelude.{◌≡◌, List, ◌∷◌, ℕ, zero, suc, ◌+◌, ◌*◌, ◌≤◌, eqb, length, get_or}
+use Rattle.std.specs.Prelude.{◌≡◌, List, [], ◌∷◌, ℕ, zero, suc, ◌+◌, ◌*◌, ◌≤◌, eqb, length, get_or}
 use Rattle.terms.specs.Limits.{row_cells, rule_nodes}
 use Rattle.terms.specs.Choice.{pick}
 use Rattle.terms.specs.Forms.{delayed_form, obligation_form}

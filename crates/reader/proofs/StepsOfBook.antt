@@ -1,6 +1,6 @@
 -- THE STEPS OF AN ACCEPTED BOOK. From the place that the answer names, the cursor hands out the book's steps in order, and then the end.
 use mathlib.Core.Path.{◌≡◌, sym, ap, ◌∙◌}
-use mathlib.Core.List.{List, ◌∷◌}
+use mathlib.Core.List.{List, [], ◌∷◌}
 use mathlib.Core.Option.{none, some}
 use Prim.Native.Nat.{ℕ, ◌<◌}
 use Rattle.result.specs.Result.{given}

@@ -4,7 +4,7 @@
 --     written    the tables with a book in front; every place past it keeps what it held, and so do the bytes behind a label
 --                in the 32 of its rule
 --     read_into   refusal 1, then what the book's bytes say
-use Rattle.std.specs.Prelude.{Bool, ◌&&◌, List, ◌∷◌, ◌++◌, map, ℕ, leb, length, take, drop}
+use Rattle.std.specs.Prelude.{Bool, ◌&&◌, List, [], ◌∷◌, ◌++◌, map, ℕ, leb, length, take, drop}
 use Rattle.terms.specs.Limits.{book_nodes, book_rules, book_slots, label_bytes, labels_room, names_room}
 use Rattle.terms.specs.Choice.{pick}
 use Rattle.book.specs.Book.{Book, Outcome, accepted, refused, read}

@@ -2,7 +2,7 @@
 --     next_step     the step line at a place with the place behind it: what `next_step` answers
 --     steps_from    the steps from a place on, up to the first line that is none
 -- The laws between them and with a book are in proofs/StepsOfBook.antt.
-use Rattle.std.specs.Prelude.{List, ◌∷◌, ℕ, ◌+◌, ltb, length, take, drop}
+use Rattle.std.specs.Prelude.{List, [], ◌∷◌, ℕ, ◌+◌, ltb, length, take, drop}
 use Rattle.std.proofs.Math.Option.{Option, none, some}
 use Rattle.terms.specs.Choice.{pick}
 use Rattle.result.specs.Result.{Result, given}

@@ -2,7 +2,7 @@
 -- `run` with whatever tables it is lent. The contracts of `step` and `run` are equality with `step_call` and `run_call`, of which the machine is made.
 --     on_slices      the machine
 --     DemandThree   demand 3 of these calls, from the answers of `compile_formula` and `fresh` on
-use Rattle.std.specs.Prelude.{Bool, true, false, List, ◌∷◌, ◌≡◌, ℕ, ◌+◌}
+use Rattle.std.specs.Prelude.{Bool, true, false, List, [], ◌∷◌, ◌≡◌, ℕ, ◌+◌}
 use Rattle.std.proofs.Math.Option.{Option, none, some}
 use Rattle.result.specs.Result.{Result, given, refused}
 use Rattle.formula.specs.Formula.{Formula}

@@ -2,7 +2,7 @@
 -- Of alarms and culprits since then `AlarmSince` and `CulpritSince` (specs/Since) speak.
 use mathlib.Core.Path.{◌≡◌, refl, sym, ◌∙◌}
 use mathlib.Core.Bool.{true, false}
-use mathlib.Core.List.{List, ◌∷◌}
+use mathlib.Core.List.{List, [], ◌∷◌}
 use mathlib.Core.Logic.{inr, ⊎_elim, ◌↔◌}
 use Prim.Native.Nat.{ℕ, ◌<◌}
 use lib.IntN.{ℤ, pos}

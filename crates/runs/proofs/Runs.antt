@@ -9,7 +9,7 @@
 --     fits_again         over tables that hold its rule a ready monitor is run where each step is below 2^63, and is ready again afterwards
 --     no_words           a run of no words is handed no step
 use mathlib.Core.Path.{◌≡◌}
-use mathlib.Core.List.{List, ◌∷◌}
+use mathlib.Core.List.{List, [], ◌∷◌}
 use mathlib.Core.Logic.{◌⊎◌, ◌↔◌}
 use mathlib.Core.Option.{some}
 use Prim.Native.Nat.{ℕ, ◌+◌, ◌≤◌}

@@ -4,7 +4,7 @@
 --     memory_after   the memory that the last of them leaves
 --     report_among   the first step whose call reported, among such answers
 --     run_call       the answer to a run: refused as a whole, or that many calls of `step`
-use Rattle.std.specs.Prelude.{Bool, true, false, ◌&&◌, List, ◌∷◌, ◌⊎◌, ◌≡◌, ℕ, ◌+◌, ◌≤◌, ltb, get_or}
+use Rattle.std.specs.Prelude.{Bool, true, false, ◌&&◌, List, [], ◌∷◌, ◌⊎◌, ◌≡◌, ℕ, ◌+◌, ◌≤◌, ltb, get_or}
 use Rattle.std.proofs.Math.Option.{Option, none, some}
 use Rattle.terms.specs.Limits.{steps}
 use Rattle.result.specs.Result.{Result, given, refused}

@@ -4,7 +4,7 @@
 --     ComesBack      saved and restored: the state that comes back, the answers of every list of later calls, and the culprits
 --     SavedAgain     restored and saved: the bytes that were read
 --     SaveRestore    both, of what the calls answer
-use Rattle.std.specs.Prelude.{Bool, true, false, List, ◌∷◌, ◌≡◌, ℕ, ◌<◌, ◌≤◌, length, get_or, take}
+use Rattle.std.specs.Prelude.{Bool, true, false, List, [], ◌∷◌, ◌≡◌, ℕ, ◌<◌, ◌≤◌, length, get_or, take}
 use Rattle.std.proofs.Math.Option.{Option, none, some}
 use Rattle.std.proofs.lemmas.List.Edits.{sets}
 use Rattle.result.specs.Result.{Result, given, refused}

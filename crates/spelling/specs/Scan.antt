@@ -2,7 +2,7 @@
 --     node_text    what a node of the formula table adds to the text
 --     run_text     what a run of nodes adds
 -- `run_text` (proofs/Scans.antt): over the nodes of a pure formula this is the formula's text.
-use Rattle.std.specs.Prelude.{◌≡◌, Bool, true, List, ◌∷◌, ◌++◌, ℕ, ◌≤◌, ltb, length}
+use Rattle.std.specs.Prelude.{◌≡◌, Bool, true, List, [], ◌∷◌, ◌++◌, ℕ, ◌≤◌, ltb, length}
 use Rattle.terms.specs.Choice.{pick}
 use Rattle.formula.specs.Tree.{leaf_of, one_of, two_of, unknown}
 use Rattle.formula.specs.Spells.{Spells}

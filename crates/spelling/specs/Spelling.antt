@@ -2,7 +2,7 @@
 --     spell         the bytes of a sign
 --     signal_text    the text of a node's signal
 --     operand_text   the text of an obligation's operand
-use Rattle.std.specs.Prelude.{Bool, true, false, List, ◌∷◌, ◌++◌, ℕ}
+use Rattle.std.specs.Prelude.{Bool, true, false, List, [], ◌∷◌, ◌++◌, ℕ}
 use Rattle.formula.specs.Formula.{Formula, var, input, output}
 use Rattle.formula.specs.Text.{Sign, atom, sign, signs_by, signs, operand}
 use Rattle.monitor.specs.Mon.{Signal, always_true, at}

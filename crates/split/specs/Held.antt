@@ -4,7 +4,7 @@
 --     owed        three numbers an obligation: `eventually_kind` and a place, or `until_kind` and two places
 --     result_of    document 01's result of the answer enum
 --     splitting   the result for what is lent, with refusals 1 and 2, and both slices afterwards
-use Rattle.std.specs.Prelude.{◌≡◌, Bool, true, false, ◌&&◌, List, ◌∷◌, ◌++◌, ℕ, ◌+◌, ◌*◌, ◌≤◌, leb, length}
+use Rattle.std.specs.Prelude.{◌≡◌, Bool, true, false, ◌&&◌, List, [], ◌∷◌, ◌++◌, ℕ, ◌+◌, ◌*◌, ◌≤◌, leb, length}
 use Rattle.std.proofs.Math.Option.{Option, none, some}
 use Rattle.std.proofs.lemmas.List.Edits.{sets}
 use Rattle.terms.specs.Limits.{owed_room, skeleton_room}

@@ -3,7 +3,7 @@
 --     Wrote      a tape after some text
 --     decimal    (crate number) a number's decimal digits, the same as in a book
 -- `wrote_all` (proofs/Tapes.antt): a text that fits stands there whole, and the rest is as before.
-use Rattle.std.specs.Prelude.{◌≡◌, List, ◌∷◌, ◌++◌, ℕ, suc, ◌+◌, ltb, ℤ, pos, negsuc, length, set}
+use Rattle.std.specs.Prelude.{◌≡◌, List, [], ◌∷◌, ◌++◌, ℕ, suc, ◌+◌, ltb, ℤ, pos, negsuc, length, set}
 use Rattle.terms.specs.Choice.{pick}
 use Rattle.number.specs.Digits.{decimal}
 

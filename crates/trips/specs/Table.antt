@@ -2,7 +2,7 @@
 --     Row       a trip: what it runs and what is expected of it
 --     trips     the table; a trip more is a line more of `computed`
 --     kept      the layers' own definitions give what the row expects
-use Rattle.std.specs.Prelude.{Bool, true, false, ◌&&◌, List, ◌∷◌, ◌++◌, map, ℕ, eqb}
+use Rattle.std.specs.Prelude.{Bool, true, false, ◌&&◌, List, [], ◌∷◌, ◌++◌, map, ℕ, eqb}
 use Rattle.formula.specs.Tree.{leaf, one, two}
 use Rattle.formula.specs.Formula.{Atom, var, input, output, Formula, always, eventually, always_for, within, and, or}
 use Rattle.formula.specs.Text.{Sign, atom, sign}

@@ -1,5 +1,5 @@
 -- What the report of a watch says, where the step lines are numbered 0, 1, 2 and on: it is the report of their record.
-use Rattle.std.specs.Prelude.{List, ◌∷◌, map, ◌↔◌, ◌≡◌, ℕ, suc, ◌<◌, ℤ, length, get_or}
+use Rattle.std.specs.Prelude.{List, [], ◌∷◌, map, ◌↔◌, ◌≡◌, ℕ, suc, ◌<◌, ℤ, length, get_or}
 use Rattle.book.specs.Book.{StepLine}
 use Rattle.monitor.specs.Mon.{Mon}
 use Rattle.meaning.specs.Alarm.{Record, Alarm, NoneBelow}

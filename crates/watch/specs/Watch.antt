@@ -1,7 +1,7 @@
 -- What watching a rule of a book gives, with every call on the monitor a call in place (crates/in_place).
 --     watched       from a monitor, over step lines: the first report with its step and culprit, or the first refused step
 --     rule_watched   the rule is compiled, its monitor made and stepped over the step lines from a place of the text on
-use Rattle.std.specs.Prelude.{Bool, true, false, List, ◌∷◌, ℕ, ℤ, pos, get_or, replicate}
+use Rattle.std.specs.Prelude.{Bool, true, false, List, [], ◌∷◌, ℕ, ℤ, pos, get_or, replicate}
 use Rattle.terms.specs.Limits.{node_cells, rule_nodes}
 use Rattle.book.specs.Book.{StepLine}
 use Rattle.reader.specs.Steps.{steps_from}

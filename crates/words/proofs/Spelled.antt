@@ -1,7 +1,7 @@
 -- EVERY RUN OF BYTES GIVES THE WORD THAT IT SPELLS, OR UNKNOWN WHERE IT SPELLS NONE. One test over the vocabulary is computed; the rest follows.
 use mathlib.Core.Path.{◌≡◌, refl, sym, ap, subst, ◌∙◌}
 use mathlib.Core.Bool.{Bool, true, false, ◌&&◌}
-use mathlib.Core.List.{List, ◌∷◌}
+use mathlib.Core.List.{List, [], ◌∷◌}
 use Prim.Native.Nat.{ℕ, zero, suc, ◌≤◌, ◌<◌}
 use native.Mathlib.Omega.{arith}
 use borrow.Author.Tests.{eqb-true, ltb-true, ltb-false}

@@ -1,7 +1,7 @@
 -- What inner functions say of letters.
 --     Coded      r is bytes as one number, the first lowest
 --     sized      the words of a length
-use Rattle.std.specs.Prelude.{◌≡◌, List, ◌∷◌, ℕ, ◌+◌, ◌*◌, ◌<◌, eqb, length}
+use Rattle.std.specs.Prelude.{◌≡◌, List, [], ◌∷◌, ℕ, ◌+◌, ◌*◌, ◌<◌, eqb, length}
 use Rattle.terms.specs.Choice.{pick}
 use Rattle.words.specs.Word.{Entry}
 

@@ -1,5 +1,5 @@
 -- Two runs of bytes are the same.
-use Rattle.std.specs.Prelude.{Bool, true, false, ◌&&◌, List, ◌∷◌, ℕ, eqb}
+use Rattle.std.specs.Prelude.{Bool, true, false, ◌&&◌, List, [], ◌∷◌, ℕ, eqb}
 
 unfoldable pub eqbs : List ℕ → List ℕ → Bool
 eqbs [] [] = true

@@ -2,7 +2,7 @@
 --     vocabulary      every word with its spelling
 --     word_of          the word that bytes spell, unknown where they spell none
 --     spelling_of      the spelling of a word by its number, which is its place in the vocabulary; its length and its letters
-use Rattle.std.specs.Prelude.{List, ◌∷◌, ℕ, zero, suc, length, get_or}
+use Rattle.std.specs.Prelude.{List, [], ◌∷◌, ℕ, zero, suc, length, get_or}
 use Rattle.terms.specs.Choice.{pick}
 use Rattle.terms.specs.Ops.{var_op, in_op, out_op, not_op, next_op, always_op, eventually_op, always_for_op, within_op, and_op, or_op, implies_op, until_op}
 use Rattle.words.specs.Same.{eqbs}
