@@ -3,42 +3,48 @@
 #![tactic(auto)]
 
 use book::state::States;
+use input::read_full;
 use letters::{length, letter};
-use libc::STDOUT_FILENO;
 use reader::read::{Answer, read_book};
 use reader::steps::{StepRead, next_step};
+use std::rt::Files;
+use std::{fs, io, str};
 use terms::limit::{BOOK_NODES, BOOK_RULES, BOOK_SLOTS, LABEL_BYTES, LABELS_ROOM, NAMES_ROOM};
 use terms::word::{RULE, SLOT, STEP};
 
 // The most places that a table here has.
 const PLACES: usize = 2050;
 
-fn put(s: &[u8]) {
-    io::write_all(STDOUT_FILENO, s);
+// The bytes that are read of a book, one more than any has.
+const TEXT_ROOM: usize = 65536;
+
+fn put(rt: &impl Print, s: &[u8]) -> io::Result<()> {
+    rt.write_all(s)
 }
 
 // A line word, by its number.
-fn show_word(k: u8) {
+fn show_word(rt: &impl Print, k: u8) -> io::Result<()> {
     let n = length(k);
     let mut i: usize = 0;
     while i < n {
-        put(&[letter(k, i)]);
+        put(rt, &[letter(k, i)])?;
         i += 1;
     }
+    Ok(())
 }
 
 // A number behind a tab.
-fn show(n: u64) {
-    put(b"\t");
-    io::print_decimal(STDOUT_FILENO, n);
+fn show(rt: &impl Print, n: u64) -> io::Result<()> {
+    put(rt, b"\t")?;
+    rt.print(n)
 }
 
 fn wide(b: u8) -> u64 {
     b as u64
 }
 
-fn show_size(n: usize) {
-    show(n as u64);
+fn show_size(rt: &impl Print, n: usize) -> io::Result<()> {
+    show(rt, n as u64)
 }
 
 // A place of a table: what it holds, or that the table ends before it.
@@ -96,28 +102,33 @@ fn kept(bytes: &[u8], sizes: &[usize], words: &[u64], sort: u8, from: usize, mar
     true
 }
 
-fn told(kept: bool) {
+fn told(rt: &impl Print, kept: bool) -> io::Result<()> {
     if kept {
-        put(b" kept");
+        put(rt, b" kept")?;
     } else {
-        put(b" LOST");
+        put(rt, b" LOST")?;
     }
+    Ok(())
 }
 
-fn bytes_told(s: &[u8], from: usize, mark: u64) {
-    told(kept(s, &[0usize; 1], &[0u64; 1], 0, from, mark));
+fn bytes_told(rt: &impl Print, s: &[u8], from: usize, mark: u64) -> io::Result<()> {
+    told(rt, kept(s, &[0usize; 1], &[0u64; 1], 0, from, mark))?;
+    Ok(())
 }
 
-fn sizes_told(s: &[usize], from: usize) {
-    told(kept(&[0u8; 1], s, &[0u64; 1], 1, from, 7));
+fn sizes_told(rt: &impl Print, s: &[usize], from: usize) -> io::Result<()> {
+    told(rt, kept(&[0u8; 1], s, &[0u64; 1], 1, from, 7))?;
+    Ok(())
 }
 
-fn words_told(s: &[u64], from: usize) {
-    told(kept(&[0u8; 1], &[0usize; 1], s, 2, from, 7));
+fn words_told(rt: &impl Print, s: &[u64], from: usize) -> io::Result<()> {
+    told(rt, kept(&[0u8; 1], &[0usize; 1], s, 2, from, 7))?;
+    Ok(())
 }
 
 // Whether every table keeps its marks past so many rules, nodes and slots.
 fn told_all(
+    rt: &impl Print,
     labels: &[u8],
     lens: &[usize],
     kinds: &[u8],
@@ -131,161 +142,181 @@ fn told_all(
     rules: usize,
     nodes: usize,
     slots: usize,
-) {
+) -> io::Result<()> {
     if BOOK_RULES < rules {
-        return;
+        return Ok(());
     }
     if BOOK_SLOTS < slots {
-        return;
+        return Ok(());
     }
-    bytes_told(labels, LABEL_BYTES * rules, 46);
-    sizes_told(lens, rules);
-    bytes_told(kinds, rules, 7);
-    sizes_told(firsts, rules);
-    sizes_told(counts, rules);
-    bytes_told(ops, nodes, 7);
-    words_told(nums, nodes);
-    bytes_told(names, LABEL_BYTES * slots, 46);
-    sizes_told(sizes, slots);
-    words_told(widths, slots);
+    bytes_told(rt, labels, LABEL_BYTES * rules, 46)?;
+    sizes_told(rt, lens, rules)?;
+    bytes_told(rt, kinds, rules, 7)?;
+    sizes_told(rt, firsts, rules)?;
+    sizes_told(rt, counts, rules)?;
+    bytes_told(rt, ops, nodes, 7)?;
+    words_told(rt, nums, nodes)?;
+    bytes_told(rt, names, LABEL_BYTES * slots, 46)?;
+    sizes_told(rt, sizes, slots)?;
+    words_told(rt, widths, slots)
 }
 
 // The count of states, or that no `states` line stood.
-fn show_states(c: States) {
+fn show_states(rt: &impl Print, c: States) -> io::Result<()> {
     match c {
-        States::Absent => put(b"\t-"),
-        States::Stood(n) => show(n),
+        States::Absent => put(rt, b"\t-")?,
+        States::Stood(n) => show(rt, n)?,
     }
+    Ok(())
 }
 
 // One slot: its 32 bytes of name, their length and its width.
-fn show_slot(names: &[u8], sizes: &[usize], widths: &[u64], i: usize) {
+fn show_slot(
+    rt: &impl Print,
+    names: &[u8],
+    sizes: &[usize],
+    widths: &[u64],
+    i: usize,
+) -> io::Result<()> {
     if BOOK_SLOTS <= i {
-        return;
+        return Ok(());
     }
     let a = LABEL_BYTES * i;
     let e = a + LABEL_BYTES;
     if names.len() < e {
-        return;
+        return Ok(());
     }
-    show_word(SLOT);
-    put(b" ");
-    put(&names[a..e]);
+    show_word(rt, SLOT)?;
+    put(rt, b" ")?;
+    put(rt, &names[a..e])?;
     if sizes.len() <= i {
-        return;
+        return Ok(());
     }
-    show_size(sizes[i]);
+    show_size(rt, sizes[i])?;
     if widths.len() <= i {
-        return;
+        return Ok(());
     }
-    show(widths[i]);
-    put(b"\n");
+    show(rt, widths[i])?;
+    put(rt, b"\n")
 }
 
-fn show_slots(names: &[u8], sizes: &[usize], widths: &[u64], n: usize) {
+fn show_slots(
+    rt: &impl Print,
+    names: &[u8],
+    sizes: &[usize],
+    widths: &[u64],
+    n: usize,
+) -> io::Result<()> {
     let mut i: usize = 0;
     while i < n {
-        show_slot(names, sizes, widths, i);
+        show_slot(rt, names, sizes, widths, i)?;
         i += 1;
     }
+    Ok(())
 }
 
 // One rule: its 32 bytes of label, its length, kind, first place and count.
 fn show_rule(
+    rt: &impl Print,
     labels: &[u8],
     lens: &[usize],
     kinds: &[u8],
     firsts: &[usize],
     counts: &[usize],
     i: usize,
-) {
+) -> io::Result<()> {
     if BOOK_RULES <= i {
-        return;
+        return Ok(());
     }
     let a = LABEL_BYTES * i;
     let e = a + LABEL_BYTES;
     if labels.len() < e {
-        return;
+        return Ok(());
     }
-    show_word(RULE);
-    put(b" ");
-    put(&labels[a..e]);
+    show_word(rt, RULE)?;
+    put(rt, b" ")?;
+    put(rt, &labels[a..e])?;
     if lens.len() <= i {
-        return;
+        return Ok(());
     }
-    show_size(lens[i]);
+    show_size(rt, lens[i])?;
     if kinds.len() <= i {
-        return;
+        return Ok(());
     }
-    show(wide(kinds[i]));
+    show(rt, wide(kinds[i]))?;
     if firsts.len() <= i {
-        return;
+        return Ok(());
     }
-    show_size(firsts[i]);
+    show_size(rt, firsts[i])?;
     if counts.len() <= i {
-        return;
+        return Ok(());
     }
-    show_size(counts[i]);
-    put(b"\n");
+    show_size(rt, counts[i])?;
+    put(rt, b"\n")
 }
 
 fn show_rules(
+    rt: &impl Print,
     labels: &[u8],
     lens: &[usize],
     kinds: &[u8],
     firsts: &[usize],
     counts: &[usize],
     n: usize,
-) {
+) -> io::Result<()> {
     let mut i: usize = 0;
     while i < n {
-        show_rule(labels, lens, kinds, firsts, counts, i);
+        show_rule(rt, labels, lens, kinds, firsts, counts, i)?;
         i += 1;
     }
+    Ok(())
 }
 
-fn show_node(ops: &[u8], nums: &[u64], i: usize) {
+fn show_node(rt: &impl Print, ops: &[u8], nums: &[u64], i: usize) -> io::Result<()> {
     if ops.len() <= i {
-        return;
+        return Ok(());
     }
     if nums.len() <= i {
-        return;
+        return Ok(());
     }
-    put(b"node");
-    show(wide(ops[i]));
-    show(nums[i]);
-    put(b"\n");
+    put(rt, b"node")?;
+    show(rt, wide(ops[i]))?;
+    show(rt, nums[i])?;
+    put(rt, b"\n")
 }
 
-fn show_nodes(ops: &[u8], nums: &[u64], n: usize) {
+fn show_nodes(rt: &impl Print, ops: &[u8], nums: &[u64], n: usize) -> io::Result<()> {
     let mut i: usize = 0;
     while i < n {
-        show_node(ops, nums, i);
+        show_node(rt, ops, nums, i)?;
         i += 1;
     }
+    Ok(())
 }
 
 // The steps from a place on, at most so many.
-fn show_steps(text: &[u8], from: usize) {
+fn show_steps(rt: &impl Print, text: &[u8], from: usize) -> io::Result<()> {
     let mut at = from;
     let mut left: usize = 100;
     while 0 < left {
         match next_step(text, at) {
-            StepRead::End => return,
+            StepRead::End => return Ok(()),
             StepRead::Step { step, truths, next } => {
-                show_word(STEP);
-                show(step);
-                show(truths);
-                put(b"\n");
+                show_word(rt, STEP)?;
+                show(rt, step)?;
+                show(rt, truths)?;
+                put(rt, b"\n")?;
                 at = next;
                 left -= 1;
             }
         }
     }
+    Ok(())
 }
 
 // The answer, and what the tables hold.
 fn report(
+    rt: &impl Print,
     text: &[u8],
     labels: &[u8],
     lens: &[usize],
@@ -298,16 +329,16 @@ fn report(
     sizes: &[usize],
     widths: &[u64],
     answer: Answer,
-) {
+) -> io::Result<()> {
     match answer {
         Answer::Refused { number, line } => {
-            put(b" refused");
-            show(number as u64);
-            show_size(line);
+            put(rt, b" refused")?;
+            show(rt, number as u64)?;
+            show_size(rt, line)?;
             told_all(
-                labels, lens, kinds, firsts, counts, ops, nums, names, sizes, widths, 0, 0, 0,
-            );
-            put(b"\n");
+                rt, labels, lens, kinds, firsts, counts, ops, nums, names, sizes, widths, 0, 0, 0,
+            )?;
+            put(rt, b"\n")?;
         }
         Answer::Read {
             rules,
@@ -316,27 +347,28 @@ fn report(
             slots,
             states,
         } => {
-            put(b" read");
-            show_size(rules);
-            show_size(nodes);
-            show_size(steps_at);
-            show_size(slots);
-            show_states(states);
+            put(rt, b" read")?;
+            show_size(rt, rules)?;
+            show_size(rt, nodes)?;
+            show_size(rt, steps_at)?;
+            show_size(rt, slots)?;
+            show_states(rt, states)?;
             told_all(
-                labels, lens, kinds, firsts, counts, ops, nums, names, sizes, widths, rules, nodes,
-                slots,
-            );
-            put(b"\n");
-            show_slots(names, sizes, widths, slots);
-            show_rules(labels, lens, kinds, firsts, counts, rules);
-            show_nodes(ops, nums, nodes);
-            show_steps(text, steps_at);
+                rt, labels, lens, kinds, firsts, counts, ops, nums, names, sizes, widths, rules,
+                nodes, slots,
+            )?;
+            put(rt, b"\n")?;
+            show_slots(rt, names, sizes, widths, slots)?;
+            show_rules(rt, labels, lens, kinds, firsts, counts, rules)?;
+            show_nodes(rt, ops, nums, nodes)?;
+            show_steps(rt, text, steps_at)?;
         }
     }
+    Ok(())
 }
 
 // A text read into tables of a given size.
-fn read_text(text: &[u8]) {
+fn read_text(rt: &impl Print, text: &[u8]) -> io::Result<()> {
     let mut labels = [46u8; PLACES];
     let mut lens = [7usize; 66];
     let mut kinds = [7u8; 65];
@@ -361,13 +393,13 @@ fn read_text(text: &[u8]) {
         &mut widths,
     );
     report(
-        text, &labels, &lens, &kinds, &firsts, &counts, &ops, &nums, &names, &sizes, &widths,
+        rt, text, &labels, &lens, &kinds, &firsts, &counts, &ops, &nums, &names, &sizes, &widths,
         answer,
-    );
+    )
 }
 
 // Tables that are too short: refusal 1, before 3.
-fn read_short(text: &[u8]) {
+fn read_short(rt: &impl Print, text: &[u8]) -> io::Result<()> {
     let mut labels = [46u8; LABELS_ROOM];
     let mut lens = [7usize; BOOK_RULES];
     let mut kinds = [7u8; BOOK_RULES];
@@ -393,10 +425,10 @@ fn read_short(text: &[u8]) {
     );
     match answer {
         Answer::Refused { number, line } => {
-            put(b"short tables refused");
-            show(number as u64);
-            show_size(line);
-            put(b"\n");
+            put(rt, b"short tables refused")?;
+            show(rt, number as u64)?;
+            show_size(rt, line)?;
+            put(rt, b"\n")?;
         }
         Answer::Read {
             rules: _,
@@ -404,37 +436,40 @@ fn read_short(text: &[u8]) {
             steps_at: _,
             slots: _,
             states: _,
-        } => put(b"short tables READ\n"),
+        } => put(rt, b"short tables READ\n")?,
     }
+    Ok(())
 }
 
 // Book number n of data/: its name has three digits.
-fn run(n: u8) -> bool {
+fn run(rt: &(impl Files + Print), n: u8) -> io::Result<bool> {
     let name = [b'b', 48 + n / 100, 48 + n / 10 % 10, 48 + n % 10];
-    let fd = os::open_read(&name);
-    if fd < 0 {
-        return false;
+    let path = str::from_utf8(&name).unwrap();
+    match fs::open(rt, path) {
+        Err(_) => Ok(false),
+        Ok(mut file) => {
+            let mut text = [0u8; TEXT_ROOM];
+            let got = read_full(&mut file, &mut text)?;
+            put(rt, &name)?;
+            read_text(rt, &text[..got])?;
+            Ok(true)
+        }
     }
-    let mut text = io::large_buffer();
-    let got = io::read_full(fd, &mut text);
-    libc::close(fd);
-    put(&name);
-    read_text(&text[..got]);
-    true
 }
 
-fn run_all() {
+fn run_all(rt: &(impl Files + Print)) -> io::Result<()> {
     let mut n: u8 = 0;
     while n < 200 {
-        if !run(n) {
-            return;
+        if !run(rt, n)? {
+            return Ok(());
         }
         n += 1;
     }
+    Ok(())
 }
 
-fn main() {
-    run_all();
-    let long = io::large_buffer();
-    read_short(&long);
+fn main(rt: HostRuntime) -> io::Result<()> {
+    run_all(&rt)?;
+    let long = [0u8; TEXT_ROOM];
+    read_short(&rt, &long)
 }

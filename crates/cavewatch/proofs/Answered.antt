@@ -2,19 +2,17 @@
 use mathlib.Core.Bool.{true}
 use mathlib.Core.List.{List, ◌++◌}
 use mathlib.Core.Path.{◌≡◌, sym, ap, ◌∙◌}
-use Prim.Native.Nat.{ℕ, ◌≤◌}
+use Prim.Native.Nat.{ℕ}
 use native.Mathlib.Omega.{arith}
 use borrow.Author.Tests.{le-leb}
 use lib.Dec.{leb}
 use lib.ListN.{length, take, drop}
 use lib.Seq.{take-append_seam}
-use Rattle.io.specs.Counts.{IsPrefixLen}
-use Rattle.io.proofs.Counting.{prefix_len_of_le}
 use Rattle.result.specs.Result.{Result, given, refused}
 use Rattle.listing_text.specs.Listing.{listing}
 use Rattle.listing.specs.declared.whole.Listed.{Listed}
 use Rattle.listing.specs.declared.whole.Listed.TheVariants.{Text, Refused}
-use Rattle.listing.specs.Lists.{result_of, list_call, Answers, Within}
+use Rattle.listing.specs.Lists.{result_of, list_call, Answers}
 
 module _ (a : Listed) (text old new : List ℕ) (w : Answers (list_call text old) a new) (h : length old ≡ 262144) where
   long : leb 262144 (length old) ≡ true
@@ -43,6 +41,3 @@ module _ (a : Listed) (text old new : List ℕ) (w : Answers (list_call text old
       let x : ◌≡◌ {A = Result ℕ} (refused k) (given (length (listing text))) = ap result_of (sym e) ∙ answer in
       let y : ◌≡◌ {A = ℕ} 0 1 = cc in
       omega arith
-
-pub listed_counts : (a : Listed) (n : ℕ) (out : List ℕ) → a ≡ Text n → Within a out → IsPrefixLen n out
-listed_counts a n out e w = let h : n ≤ length out = rw e at w in prefix_len_of_le n out h

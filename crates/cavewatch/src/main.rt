@@ -1,18 +1,23 @@
 // cavewatch: reads a book on standard input and writes its listing to standard output. Where reading fails it writes no listing; a failure is
 // said on standard error.
-ghost use Rattle.std.specs.Prelude.{length, take, ◌≡◌};
-ghost use Rattle.io.specs.Counts.{IsPrefixLen};
-ghost use Rattle.listing_text.specs.Listing.{listing};
-ghost use Rattle.cavewatch.specs.Input.{Got, turn_of};
+#![tactic(auto)]
 
-use libc::{STDIN_FILENO, STDOUT_FILENO};
+ghost use Rattle.std.specs.Prelude.{length, take, ◌≡◌};
+ghost use Rattle.listing_text.specs.Listing.{listing};
+ghost use Rattle.cavewatch.specs.Input.{IsPrefixLen, Got, turn_of};
+
 use listing::whole::{Listed, list_book};
+use std::io;
+use std::io::Read;
 use terms::limit::LISTING_BYTES;
+
+// The bytes that are read of a book, one more than any has.
+const TEXT_ROOM: usize = 65536;
 
 // What one read gave: a failure, the input's end, or so many bytes.
 #[derive(Drop)]
 enum Turn {
-    Failed,
+    Failed(io::Error),
     End,
     More(usize),
 }
@@ -21,34 +26,36 @@ enum Turn {
 #[derive(Drop)]
 enum Input {
     Bytes(usize),
-    Failed,
+    Failed(io::Error),
 }
 
 // What a read into `room` answered.
-fn taken(got: isize, room: &[u8]) -> Turn
+fn taken(got: io::Result<usize>, room: &[u8]) -> Turn
     ensures { result ≡ turn_of got (length room.now) }
 {
-    if got < 0 {
-        return Turn::Failed;
+    match got {
+        Err(e) => Turn::Failed(e),
+        Ok(k) => {
+            let n = k.min(room.len());
+            if n == 0 {
+                return Turn::End;
+            }
+            Turn::More(n)
+        }
     }
-    let n = io::count(got, room);
-    if n == 0 {
-        return Turn::End;
-    }
-    Turn::More(n)
 }
 
 // Reads until the input ends, the buffer is full or a read fails.
-fn read_input(fd: i32, buf: &mut [u8]) -> Input
+fn read_input<R: Read>(input: &mut R, buf: &mut [u8]) -> Input
     ensures { Got result buf.new }
 {
     let mut n = 0usize;
     while n < buf.len() {
-        let got = libc::read(fd, &mut buf[n..]);
+        let got = input.read(&mut buf[n..]);
         let gave = taken(got, &buf[n..]);
         match gave {
-            Turn::Failed => {
-                return Input::Failed;
+            Turn::Failed(e) => {
+                return Input::Failed(e);
             }
             Turn::End => {
                 return Input::Bytes(n);
@@ -77,18 +84,21 @@ fn list(text: &[u8], out: &mut [u8; LISTING_BYTES]) -> usize
     }
 }
 
-fn main() {
-    let mut text = io::large_buffer();
-    let input = read_input(STDIN_FILENO, &mut text);
+fn main(rt: HostRuntime) -> io::Result<()> {
+    let mut text = [0u8; TEXT_ROOM];
+    let input = read_input(&mut rt.stdin(), &mut text);
     match input {
-        Input::Failed => {
-            os::fail(b"cavewatch: nothing is listed, reading the book failed");
+        Input::Failed(e) => {
+            eprintln!(rt; "cavewatch: nothing is listed, reading the book failed: {e}")
         }
         Input::Bytes(n) => {
             let mut out = [0u8; LISTING_BYTES];
             let r = list(&text[..n], &mut out);
-            if !io::write_all(STDOUT_FILENO, &out[..r]) {
-                os::fail(b"cavewatch: the listing is cut short, writing it failed");
+            match rt.write_all(&out[..r]) {
+                Ok(()) => Ok(()),
+                Err(e) => {
+                    eprintln!(rt; "cavewatch: the listing is cut short, writing it failed: {e}")
+                }
             }
         }
     }

@@ -1,18 +1,25 @@
 // Lists each book of data/books and holds the listing, byte for byte and to its whole length, to the Rust's answer in data/answers, one line
 // a book. data/made says how the two files were made.
-use libc::STDOUT_FILENO;
+#![tactic(auto)]
+
+use input::read_full;
 use listing::whole::{Listed, list_book};
+use std::io::Read;
+use std::{fs, io};
 use terms::limit::LISTING_BYTES;
 
 // More than any text's length: there is none.
 const NONE: usize = 1000000;
 
-fn put(s: &[u8]) {
-    io::write_all(STDOUT_FILENO, s);
+// Room for a text: a book or a stored answer.
+const TEXT_ROOM: usize = 65536;
+
+fn put(rt: &impl Print, s: &[u8]) -> io::Result<()> {
+    rt.write_all(s)
 }
 
-fn show(n: usize) {
-    io::print_decimal(STDOUT_FILENO, n as u64);
+fn show(rt: &impl Print, n: usize) -> io::Result<()> {
+    rt.print(n)
 }
 
 fn wide(b: u8) -> usize {
@@ -41,26 +48,26 @@ fn length(head: &[u8; 9]) -> usize {
 }
 
 // The length of a file's next text.
-fn next_length(fd: i32) -> usize {
+fn next_length<R: Read>(file: &mut R) -> io::Result<usize> {
     let mut head = [0u8; 9];
-    let got = io::read_full(fd, &mut head);
+    let got = read_full(file, &mut head)?;
     if got < 9 {
-        return NONE;
+        return Ok(NONE);
     }
-    length(&head)
+    Ok(length(&head))
 }
 
 // Reads a file's next text, if `text` has room for it; its length.
-fn next_text(fd: i32, text: &mut [u8]) -> usize {
-    let n = next_length(fd);
+fn next_text<R: Read>(file: &mut R, text: &mut [u8]) -> io::Result<usize> {
+    let n = next_length(file)?;
     if text.len() < n {
-        return n;
+        return Ok(n);
     }
-    let got = io::read_full(fd, &mut text[0..n]);
+    let got = read_full(file, &mut text[0..n])?;
     if got < n {
-        return NONE;
+        return Ok(NONE);
     }
-    n
+    Ok(n)
 }
 
 // The length of a book's listing, which is put into `out`.
@@ -87,56 +94,62 @@ fn agree(out: &[u8], r: usize, answer: &[u8], m: usize) -> bool {
     if answer.len() < m {
         return false;
     }
-    check::same(&out[0..r], &answer[0..m])
+    out[0..r] == answer[0..m]
 }
 
 // The next book: 0 if its listing is the stored answer, 1 if not, 2 if there is no further book.
-fn replay(books: i32, answers: i32, k: usize) -> usize {
-    let mut text = io::large_buffer();
-    let n = next_text(books, &mut text);
+fn replay<R: Read>(rt: &impl Print, books: &mut R, answers: &mut R, k: usize) -> io::Result<usize> {
+    let mut text = [0u8; TEXT_ROOM];
+    let n = next_text(books, &mut text)?;
     if n == NONE {
-        return 2;
+        return Ok(2);
     }
-    let mut answer = io::large_buffer();
-    let m = next_text(answers, &mut answer);
+    let mut answer = [0u8; TEXT_ROOM];
+    let m = next_text(answers, &mut answer)?;
     let mut out = [0u8; LISTING_BYTES];
     let r = list(&text, n, &mut out);
-    show(k);
+    show(rt, k)?;
     if agree(&out, r, &answer, m) {
-        put(b" same\n");
-        return 0;
+        put(rt, b" same\n")?;
+        return Ok(0);
     }
-    put(b" DIFFERS\n");
-    1
+    put(rt, b" DIFFERS\n")?;
+    Ok(1)
 }
 
 // The counts, and whether an answer is left.
-fn finish(answers: i32, k: usize, differences: usize) {
-    show(k);
-    put(b" books, ");
-    show(differences);
-    put(b" differences\n");
-    if next_length(answers) < NONE {
-        put(b"ANSWERS LEFT\n");
+fn finish<R: Read>(
+    rt: &impl Print,
+    answers: &mut R,
+    k: usize,
+    differences: usize,
+) -> io::Result<()> {
+    show(rt, k)?;
+    put(rt, b" books, ")?;
+    show(rt, differences)?;
+    put(rt, b" differences\n")?;
+    if next_length(answers)? < NONE {
+        put(rt, b"ANSWERS LEFT\n")?;
     }
+    Ok(())
 }
 
-fn replay_all(books: i32, answers: i32) {
+fn replay_all<R: Read>(rt: &impl Print, books: &mut R, answers: &mut R) -> io::Result<()> {
     let mut k: usize = 0;
     let mut differences: usize = 0;
     while k < 10000 {
-        let d = replay(books, answers, k);
+        let d = replay(rt, books, answers, k)?;
         if 1 < d {
             break;
         }
         differences += d;
         k += 1;
     }
-    finish(answers, k, differences);
+    finish(rt, answers, k, differences)
 }
 
-fn main() {
-    let books = os::open_read(b"books");
-    let answers = os::open_read(b"answers");
-    replay_all(books, answers);
+fn main(rt: HostRuntime) -> io::Result<()> {
+    let mut books = fs::open(&rt, "books")?;
+    let mut answers = fs::open(&rt, "answers")?;
+    replay_all(&rt, &mut books, &mut answers)
 }

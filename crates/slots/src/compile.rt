@@ -62,7 +62,7 @@ pub(crate) fn compile_rules(
 }
 
 // What a book opens with: its count of states, and its slots' widths, the first `slots` of them.
-#[derive(Drop)]
+#[derive(Clone, Copy)]
 pub(crate) struct Opening {
     pub count: u64,
     pub slots: usize,

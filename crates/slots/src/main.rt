@@ -2,6 +2,8 @@
 // `plan` and its five numbers, and `var`, a slot's number, first bit and width, by `layout`; `rule`, number, first bit and bits by `layout`, bits by
 // `layout_for`; `slot`, rule, node, offset, bits of the pending flag, of the remaining count, of the remembered antecedent, by `node_slot`; `alike`,
 // two rules, by `alike`; or `refused`, number and line of a refused book. Calls that are to be refused are made too, and write nothing.
+#![tactic(auto)]
+
 mod compile;
 mod misuse;
 mod show;
@@ -13,13 +15,18 @@ use crate::compile::{Opening, compile_rules, lay_out};
 use crate::misuse::try_misuse;
 use crate::show::{show_alike, show_number, show_plan, show_refused, show_rules, show_vars};
 use book::state::state_count;
+use input::read_full;
 use layout::book::BookLayout;
-use libc::{STDIN_FILENO, STDOUT_FILENO};
 use reader::read::{Answer, read_book};
+use std::io;
 use terms::limit::{BOOK_CELLS, BOOK_NODES, BOOK_RULES, BOOK_SLOTS, LABELS_ROOM, NAMES_ROOM};
+
+// The bytes that are read of a book, one more than any has.
+const TEXT_ROOM: usize = 65536;
 
 // The n rules as they are compiled: laid out, shown, and compared.
 fn run_compiled(
+    rt: &impl Print,
     ops: &[u8],
     nums: &[u64],
     kinds: &[u8],
@@ -30,7 +37,7 @@ fn run_compiled(
     refusals: &[u64; BOOK_RULES],
     n: usize,
     opening: Opening,
-)
+) -> io::Result<()>
     requires { n ≤ book_rules }
 {
     let mut starts = [0u64; BOOK_RULES];
@@ -52,19 +59,20 @@ fn run_compiled(
         &mut places,
     );
     match answer {
-        BookLayout::Refused(m) => show_refused(b"layout", m),
-        BookLayout::Done(e) => show_plan(e),
+        BookLayout::Refused(m) => show_refused(rt, b"layout", m)?,
+        BookLayout::Done(e) => show_plan(rt, e)?,
     }
     let widths = opening.widths;
-    show_vars(&places, &widths, opening.slots);
+    show_vars(rt, &places, &widths, opening.slots)?;
     show_rules(
-        ops, nums, nodes, firsts, counts, ncounts, refusals, n, &starts, &bits,
-    );
-    show_alike(ops, nums, nodes, firsts, counts, ncounts, refusals, n);
+        rt, ops, nums, nodes, firsts, counts, ncounts, refusals, n, &starts, &bits,
+    )?;
+    show_alike(rt, ops, nums, nodes, firsts, counts, ncounts, refusals, n)
 }
 
 // The n rules of an accepted book.
 fn run_rules(
+    rt: &impl Print,
     ops: &[u8],
     nums: &[u64],
     kinds: &[u8],
@@ -72,7 +80,7 @@ fn run_rules(
     counts: &[usize; BOOK_RULES],
     n: usize,
     opening: Opening,
-)
+) -> io::Result<()>
     requires { n ≤ book_rules }
 {
     let mut nodes = [0u64; BOOK_CELLS];
@@ -89,9 +97,10 @@ fn run_rules(
         &mut refusals,
     );
     run_compiled(
-        ops, nums, kinds, firsts, counts, &nodes, &ncounts, &refusals, n, opening,
-    );
+        rt, ops, nums, kinds, firsts, counts, &nodes, &ncounts, &refusals, n, opening,
+    )?;
     try_misuse(
+        rt,
         ops,
         nums,
         kinds,
@@ -102,10 +111,10 @@ fn run_rules(
         &mut refusals,
         n,
         opening,
-    );
+    )
 }
 
-fn run_book(text: &[u8]) {
+fn run_book(rt: &impl Print, text: &[u8]) -> io::Result<()> {
     let mut labels = [0u8; LABELS_ROOM];
     let mut lens = [0usize; BOOK_RULES];
     let mut kinds = [0u8; BOOK_RULES];
@@ -131,10 +140,10 @@ fn run_book(text: &[u8]) {
     );
     match answer {
         Answer::Refused { number, line } => {
-            io::write_all(STDOUT_FILENO, b"refused");
-            show_number(number as u64);
-            show_number(line as u64);
-            io::write_all(STDOUT_FILENO, b"\n");
+            rt.write_all(b"refused")?;
+            show_number(rt, number as u64)?;
+            show_number(rt, line as u64)?;
+            rt.write_all(b"\n")?;
         }
         Answer::Read {
             rules,
@@ -144,21 +153,21 @@ fn run_book(text: &[u8]) {
             states,
         } => {
             if BOOK_RULES < rules {
-                show_refused(b"more than 64 rules", 2);
-                return;
+                return show_refused(rt, b"more than 64 rules", 2);
             }
             let opening = Opening {
                 count: state_count(states),
                 slots,
                 widths,
             };
-            run_rules(&ops, &nums, &kinds, &firsts, &counts, rules, opening);
+            run_rules(rt, &ops, &nums, &kinds, &firsts, &counts, rules, opening)?;
         }
     }
+    Ok(())
 }
 
-fn main() {
-    let mut text = io::large_buffer();
-    let n = io::read_full(STDIN_FILENO, &mut text);
-    run_book(&text[..n]);
+fn main(rt: HostRuntime) -> io::Result<()> {
+    let mut text = [0u8; TEXT_ROOM];
+    let n = read_full(&mut rt.stdin(), &mut text)?;
+    run_book(&rt, &text[..n])
 }

@@ -1,3 +1,2 @@
--- The theorem of the table, and a law of the program.
-pub mod Casts
+-- The theorem of the table.
 pub mod Trips
