@@ -27,7 +27,6 @@ use Rattle.meaning.proofs.Culprits.{first_unique}
 use Rattle.meaning.proofs.Steps.{first_alarm}
 use Rattle.book.specs.Book.{StepLine}
 use Rattle.reader.specs.Steps.{steps_from}
-use Rattle.lent.specs.Lent as lent
 use Rattle.lent.specs.Lent.{LentTables, HoldsRule, Ready}
 use Rattle.stepping.specs.Walk.{read_mon, Blameless}
 use Rattle.stepping.specs.Call.{Effect, verdict_of, step_call}

@@ -1,14 +1,11 @@
 -- What a watch gives, from the answers of its calls.
-use mathlib.Core.Bool.{Bool, true, false, cond}
+use mathlib.Core.Bool.{Bool, true, false}
 use mathlib.Core.List.{List}
 use mathlib.Core.Path.{◌≡◌, refl, sym, ap, ◌∙◌}
 use Prim.Native.Nat.{ℕ, ◌<◌}
 use native.Mathlib.Omega.{arith}
 use lib.IntN.{ℤ}
 use lib.ListN.{length, replicate}
-use mir.Syntax.{w64}
-use mir.Val.{SFits, to_z, of_z}
-use mir.Facts.{to_z-of_z}
 use Rattle.formula.proofs.Cases.{true_false}
 use Rattle.book.specs.Book.{StepLine}
 use Rattle.result.specs.Result.{given}
@@ -29,25 +26,10 @@ use Rattle.in_place.specs.declared.step.Advanced.{Advanced}
 use Rattle.in_place.specs.declared.fresh.Started.{Started}
 use Rattle.in_place.specs.InPlace.{step_in, fresh_in}
 use Rattle.watch.specs.declared.rule.Watched.{Watched}
-use Rattle.watch.specs.declared.rule.Watched.TheVariants.{Quiet, Report, Refused}
+use Rattle.watch.specs.declared.rule.Watched.TheVariants.{Quiet, Refused}
 use Rattle.watch.specs.Watch.{root_culprit, on_verdict, on_step, is_end, watched, blank_monitor, on_outcome, compiled_watched, on_compiled, rule_watched}
 
 -- ---- one answer
-pub accepted_report : (b : Bool) (s : ℕ) (c : ℤ) → SFits w64 c → b ≡ true → Report s (to_z w64 (of_z w64 c)) ≡ cond b (Report s c) Quiet
-accepted_report b s c f e = ap (Report s) (to_z-of_z f) ∙ sym (ap (λ (x : Bool). cond x (Report s c) Quiet) e)
-
-pub on_accepted : (v : Verdict) (b : Bool) (s : ℕ) (c : ℤ) (r : Watched) → SFits w64 c → v ≡ Accepted b → r ≡ cond b (Report s (to_z w64 (of_z w64 c))) Quiet
-    → r ≡ on_verdict v s c Quiet
-on_accepted v true s c r h e f = f ∙ ap (Report s) (to_z-of_z h) ∙ sym (ap (λ (x : Verdict). on_verdict x s c Quiet) e)
-on_accepted v false s c r h e f = f ∙ sym (ap (λ (x : Verdict). on_verdict x s c Quiet) e)
-
-pub on_refused : (v : Verdict) (n s : ℕ) (c : ℤ) → v ≡ NotStepped n → Refused n ≡ on_verdict v s c Quiet
-on_refused v n s c e = sym (ap (λ (x : Verdict). on_verdict x s c Quiet) e)
-
-pub on_culprit : (a : Advanced) (s : ℕ) (c : ℤ) (r : Watched) → SFits w64 c → c ≡ root_culprit a.monitor
-    → r ≡ on_verdict a.verdict s (to_z w64 (of_z w64 c)) Quiet → r ≡ on_step a s Quiet
-on_culprit a s c r h e f = f ∙ ap (λ (x : ℤ). on_verdict a.verdict s x Quiet) (to_z-of_z h ∙ e)
-
 ends_here : (v : Verdict) (s : ℕ) (c : ℤ) (rest : Watched) → is_end (on_verdict v s c Quiet) ≡ true → on_verdict v s c Quiet ≡ on_verdict v s c rest
 ends_here (Accepted true) s c rest e = refl
 ends_here (Accepted false) s c rest e = true_false e refl

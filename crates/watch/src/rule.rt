@@ -17,7 +17,7 @@ use stepping::fresh::Outcome;
 use terms::limit::{BOOK_NODES, NODE_CELLS, RULE_NODES};
 
 // No report; the first report; or the refusal that ended the watch.
-#[derive(Drop)]
+#[derive(Clone, Copy)]
 pub enum Watched {
     Quiet,
     Report { step: u64, culprit: i64 },
