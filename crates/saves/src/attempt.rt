@@ -3,6 +3,7 @@ use crate::call::{MARK, Part, ROOM, is_junk_from, junk, restore_in, save_of};
 use crate::show::{LINE, add_hex, add_place, end_line};
 use in_place::ReferenceMonitor;
 use saving::save::Saved;
+use std::io;
 use stepping::fresh::Outcome;
 use text::write::{put_byte, put_bytes};
 
@@ -111,6 +112,7 @@ fn add_signs(
 
 // Each bit of n bytes turned round, if there are 1 to 4 and the place is below 4.
 pub(crate) fn show_flips(
+    rt: &impl Print,
     ops: &[u8],
     nums: &[u64],
     nodes: &[u64],
@@ -119,15 +121,15 @@ pub(crate) fn show_flips(
     i: usize,
     bytes: [u8; ROOM],
     n: usize,
-) {
+) -> io::Result<()> {
     if 3 < i {
-        return;
+        return Ok(());
     }
     if n == 0 {
-        return;
+        return Ok(());
     }
     if 4 < n {
-        return;
+        return Ok(());
     }
     let mut line = [0u8; LINE];
     let a = put_bytes(&mut line, 0, b"flip");
@@ -135,7 +137,7 @@ pub(crate) fn show_flips(
     let c = add_place(&mut line, b, i);
     let d = put_byte(&mut line, c, 9);
     let e = add_signs(ops, nums, nodes, p, bytes, 8 * n, &mut line, d);
-    end_line(&mut line, e);
+    end_line(rt, &mut line, e)
 }
 
 // The byte v, if it is read; a sign of its own if it is neither read nor refused as it is to be.
@@ -178,14 +180,22 @@ fn add_reads(
 }
 
 // Each byte that a rule of one byte is restored from.
-pub(crate) fn show_reads(ops: &[u8], nums: &[u64], nodes: &[u64], p: Part, r: usize, need: usize) {
+pub(crate) fn show_reads(
+    rt: &impl Print,
+    ops: &[u8],
+    nums: &[u64],
+    nodes: &[u64],
+    p: Part,
+    r: usize,
+    need: usize,
+) -> io::Result<()> {
     if need != 1 {
-        return;
+        return Ok(());
     }
     let mut line = [0u8; LINE];
     let a = put_bytes(&mut line, 0, b"reads");
     let b = add_place(&mut line, a, r);
     let c = put_byte(&mut line, b, 9);
     let d = add_reads(ops, nums, nodes, p, &mut line, c);
-    end_line(&mut line, d);
+    end_line(rt, &mut line, d)
 }

@@ -14,7 +14,7 @@ pub(crate) const ROOM: usize = 2112;
 pub(crate) const MARK: u8 = 165;
 
 // A compiled rule in the tables.
-#[derive(Drop)]
+#[derive(Clone, Copy)]
 pub(crate) struct Part {
     pub first: usize,
     pub count: usize,

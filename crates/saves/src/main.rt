@@ -13,6 +13,8 @@
 // held, the nodes apart if no byte is needed.
 // A monitor is restored in lists that hold junk. A refused book gives `refused`, number and line. Calls that are to be refused by 1 or 2 are made too,
 // and write nothing.
+#![tactic(auto)]
+
 mod attempt;
 mod call;
 mod misuse;
@@ -28,9 +30,13 @@ use crate::call::Part;
 use crate::rule::run_rule;
 use crate::show::show_refused;
 use compiler::{Compiled, compile_formula};
-use libc::STDIN_FILENO;
+use input::read_full;
 use reader::read::{Answer, read_book};
+use std::io;
 use terms::limit::{BOOK_CELLS, BOOK_NODES, BOOK_RULES, BOOK_SLOTS, LABELS_ROOM, NAMES_ROOM};
+
+// The bytes that are read of a book, one more than any has.
+const TEXT_ROOM: usize = 65536;
 
 // Compiles the rule at `first` into the rows from row `first` on.
 fn compile_at(ops: &[u8], nums: &[u64], first: usize, count: usize, nodes: &mut [u64]) -> Compiled {
@@ -46,6 +52,7 @@ fn compile_at(ops: &[u8], nums: &[u64], first: usize, count: usize, nodes: &mut 
 
 // Rule r, if it compiles.
 fn run_one(
+    rt: &impl Print,
     text: &[u8],
     steps_at: usize,
     ops: &[u8],
@@ -53,7 +60,7 @@ fn run_one(
     firsts: &[usize; BOOK_RULES],
     counts: &[usize; BOOK_RULES],
     r: usize,
-)
+) -> io::Result<()>
     requires { r < 64 }
 {
     let mut nodes = [0u64; BOOK_CELLS];
@@ -61,7 +68,7 @@ fn run_one(
     let count = counts[r];
     let answer = compile_at(ops, nums, first, count, &mut nodes);
     let Compiled::Nodes(ncount) = answer else {
-        return;
+        return Ok(());
     };
     let p = Part {
         first,
@@ -69,11 +76,12 @@ fn run_one(
         nfirst: first,
         ncount,
     };
-    run_rule(text, steps_at, ops, nums, &nodes, p, r);
+    run_rule(rt, text, steps_at, ops, nums, &nodes, p, r)
 }
 
 // The first n rules.
 fn run_rules(
+    rt: &impl Print,
     text: &[u8],
     steps_at: usize,
     ops: &[u8],
@@ -81,17 +89,18 @@ fn run_rules(
     firsts: &[usize; BOOK_RULES],
     counts: &[usize; BOOK_RULES],
     n: usize,
-)
+) -> io::Result<()>
     requires { n ≤ book_rules }
 {
     let mut r: usize = 0;
     while r < n {
-        run_one(text, steps_at, ops, nums, firsts, counts, r);
+        run_one(rt, text, steps_at, ops, nums, firsts, counts, r)?;
         r += 1;
     }
+    Ok(())
 }
 
-fn run_book(text: &[u8]) {
+fn run_book(rt: &impl Print, text: &[u8]) -> io::Result<()> {
     let mut labels = [0u8; LABELS_ROOM];
     let mut lens = [0usize; BOOK_RULES];
     let mut kinds = [0u8; BOOK_RULES];
@@ -116,7 +125,7 @@ fn run_book(text: &[u8]) {
         &mut widths,
     );
     match answer {
-        Answer::Refused { number, line } => show_refused(number as u64, line as u64),
+        Answer::Refused { number, line } => show_refused(rt, number as u64, line as u64)?,
         Answer::Read {
             rules,
             nodes: _,
@@ -125,16 +134,16 @@ fn run_book(text: &[u8]) {
             states: _,
         } => {
             if BOOK_RULES < rules {
-                show_refused(2, 0);
-                return;
+                return show_refused(rt, 2, 0);
             }
-            run_rules(text, steps_at, &ops, &nums, &firsts, &counts, rules);
+            run_rules(rt, text, steps_at, &ops, &nums, &firsts, &counts, rules)?;
         }
     }
+    Ok(())
 }
 
-fn main() {
-    let mut text = io::large_buffer();
-    let n = io::read_full(STDIN_FILENO, &mut text);
-    run_book(&text[..n]);
+fn main(rt: HostRuntime) -> io::Result<()> {
+    let mut text = [0u8; TEXT_ROOM];
+    let n = read_full(&mut rt.stdin(), &mut text)?;
+    run_book(&rt, &text[..n])
 }

@@ -6,11 +6,12 @@ use crate::show::{LINE, add_bytes, add_kept, add_number, add_place, end_line};
 use in_place::ReferenceMonitor;
 use in_place::fresh::Started;
 use saving::save::Saved;
+use std::io;
 use stepping::fresh::Outcome;
 use text::write::put_bytes;
 
 // Monitor B could not be saved.
-fn show_unsaved(r: usize, i: usize, refusal: u64, kept: bool) {
+fn show_unsaved(rt: &impl Print, r: usize, i: usize, refusal: u64, kept: bool) -> io::Result<()> {
     let mut line = [0u8; LINE];
     let a = put_bytes(&mut line, 0, b"back");
     let b = add_place(&mut line, a, r);
@@ -18,11 +19,12 @@ fn show_unsaved(r: usize, i: usize, refusal: u64, kept: bool) {
     let d = add_number(&mut line, c, refusal);
     let e = put_bytes(&mut line, d, b"\t-\t-");
     let f = add_kept(&mut line, e, kept);
-    end_line(&mut line, f);
+    end_line(rt, &mut line, f)
 }
 
 // Monitor B was saved, and restored or not.
 fn show_back(
+    rt: &impl Print,
     ops: &[u8],
     nums: &[u64],
     nodes: &[u64],
@@ -32,7 +34,7 @@ fn show_back(
     outcome: Outcome,
     m: ReferenceMonitor,
     kept: bool,
-) {
+) -> io::Result<()> {
     let mut bytes = [MARK; ROOM];
     let n = count_saved(save_of(ops, nums, nodes, p, m, &mut bytes));
     let mut line = [0u8; LINE];
@@ -43,7 +45,7 @@ fn show_back(
     let e = add_number(&mut line, d, refusal_in(outcome));
     let f = add_bytes(&mut line, e, &bytes, n);
     let g = add_kept(&mut line, f, kept);
-    end_line(&mut line, g);
+    end_line(rt, &mut line, g)
 }
 
 fn restored_or(started: Started, m: ReferenceMonitor) -> ReferenceMonitor {
@@ -56,6 +58,7 @@ fn restored_or(started: Started, m: ReferenceMonitor) -> ReferenceMonitor {
 
 // The monitor saved, lost, and restored in lists of junk.
 fn switched_off(
+    rt: &impl Print,
     ops: &[u8],
     nums: &[u64],
     nodes: &[u64],
@@ -63,27 +66,28 @@ fn switched_off(
     r: usize,
     i: usize,
     m: ReferenceMonitor,
-) -> ReferenceMonitor {
+) -> io::Result<ReferenceMonitor> {
     let mut bytes = [MARK; ROOM];
     let answer = save_of(ops, nums, nodes, p, m, &mut bytes);
     match answer {
         Saved::Refused(n) => {
-            show_unsaved(r, i, n, holds_from(&bytes, 0, MARK));
-            m
+            show_unsaved(rt, r, i, n, holds_from(&bytes, 0, MARK))?;
+            Ok(m)
         }
         Saved::Bytes(_) => {
             let started = restore_in(ops, nums, nodes, p, junk(), &bytes);
             let outcome = started.outcome;
             let back = started.monitor;
             let kept = is_junk_from(back, p.ncount);
-            show_back(ops, nums, nodes, p, r, i, outcome, back, kept);
-            restored_or(started, m)
+            show_back(rt, ops, nums, nodes, p, r, i, outcome, back, kept)?;
+            Ok(restored_or(started, m))
         }
     }
 }
 
 // Monitor B behind a place: switched off and on again where place and rule say so.
 pub(crate) fn off_and_on(
+    rt: &impl Print,
     ops: &[u8],
     nums: &[u64],
     nodes: &[u64],
@@ -91,9 +95,9 @@ pub(crate) fn off_and_on(
     r: usize,
     i: usize,
     m: ReferenceMonitor,
-) -> ReferenceMonitor {
+) -> io::Result<ReferenceMonitor> {
     if (i % 3 + r % 3) % 3 == 1 {
-        return switched_off(ops, nums, nodes, p, r, i, m);
+        return switched_off(rt, ops, nums, nodes, p, r, i, m);
     }
-    m
+    Ok(m)
 }

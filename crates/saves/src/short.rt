@@ -6,6 +6,7 @@ use crate::show::{LINE, add_kept, add_number, add_place, end_line};
 use in_place::ReferenceMonitor;
 use in_place::fresh::Started;
 use saving::save::Saved;
+use std::io;
 use stepping::fresh::Outcome;
 use text::write::put_bytes;
 
@@ -48,6 +49,7 @@ fn restore_short(
 
 // One byte less lent than is needed.
 pub(crate) fn show_short(
+    rt: &impl Print,
     ops: &[u8],
     nums: &[u64],
     nodes: &[u64],
@@ -55,24 +57,25 @@ pub(crate) fn show_short(
     r: usize,
     m: ReferenceMonitor,
     need: usize,
-) {
+) -> io::Result<()> {
     let lent = less_one(need);
     let mut bytes = [255u8; ROOM];
     let saved = save_short(ops, nums, nodes, p, m, &mut bytes, lent);
     let started = restore_short(ops, nums, nodes, p, &bytes, lent);
     let outcome = started.outcome;
-    show_answers(r, need, saved, outcome, started.monitor, &bytes);
+    show_answers(rt, r, need, saved, outcome, started.monitor, &bytes)
 }
 
 // Nothing was changed, but for the monitor's entries where no byte was needed.
 fn show_answers(
+    rt: &impl Print,
     r: usize,
     need: usize,
     saved: Saved,
     outcome: Outcome,
     m: ReferenceMonitor,
     bytes: &[u8],
-) {
+) -> io::Result<()> {
     let mut line = [0u8; LINE];
     let a = put_bytes(&mut line, 0, b"short");
     let b = add_place(&mut line, a, r);
@@ -80,7 +83,7 @@ fn show_answers(
     let d = add_number(&mut line, c, refusal_to_save(saved));
     let e = add_number(&mut line, d, refusal_in(outcome));
     let f = add_kept(&mut line, e, is_as_before(m, bytes));
-    end_line(&mut line, f);
+    end_line(rt, &mut line, f)
 }
 
 fn is_as_before(m: ReferenceMonitor, bytes: &[u8]) -> bool {

@@ -1,5 +1,5 @@
 // Lines, each written into a buffer and then out.
-use libc::STDOUT_FILENO;
+use std::io;
 use text::write::{put_byte, put_bytes, put_decimal};
 
 // The room of a line.
@@ -7,17 +7,17 @@ pub(crate) const LINE: usize = 8192;
 
 const TAB: u8 = 9;
 
-fn write_out(line: &[u8], n: usize) {
+fn write_out(rt: &impl Print, line: &[u8], n: usize) -> io::Result<()> {
     if line.len() < n {
-        return;
+        return Ok(());
     }
-    io::write_all(STDOUT_FILENO, &line[0..n]);
+    rt.write_all(&line[0..n])
 }
 
 // The line's bytes up to `at`, and LF.
-pub(crate) fn end_line(line: &mut [u8], at: usize) {
+pub(crate) fn end_line(rt: &impl Print, line: &mut [u8], at: usize) -> io::Result<()> {
     let end = put_byte(line, at, 10);
-    write_out(line, end);
+    write_out(rt, line, end)
 }
 
 // A number behind a tab.
@@ -79,20 +79,20 @@ pub(crate) fn add_kept(line: &mut [u8], at: usize, kept: bool) -> usize {
 }
 
 // The line of a refused book.
-pub(crate) fn show_refused(number: u64, at_line: u64) {
+pub(crate) fn show_refused(rt: &impl Print, number: u64, at_line: u64) -> io::Result<()> {
     let mut line = [0u8; LINE];
     let a = put_bytes(&mut line, 0, b"refused");
     let b = add_number(&mut line, a, number);
     let c = add_number(&mut line, b, at_line);
-    end_line(&mut line, c);
+    end_line(rt, &mut line, c)
 }
 
 // A call that answers otherwise than it is to.
-pub(crate) fn show_misuse(r: usize, call: u64, n: u64) {
+pub(crate) fn show_misuse(rt: &impl Print, r: usize, call: u64, n: u64) -> io::Result<()> {
     let mut line = [0u8; LINE];
     let a = put_bytes(&mut line, 0, b"misuse");
     let b = add_place(&mut line, a, r);
     let c = add_number(&mut line, b, call);
     let d = add_number(&mut line, c, n);
-    end_line(&mut line, d);
+    end_line(rt, &mut line, d)
 }
