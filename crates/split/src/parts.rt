@@ -142,7 +142,9 @@ pub fn split(
     if assumed {
         return Liveness::None;
     }
-    if !liveness::walk::contains_liveness(ops, nums, first) {
+    let owes = liveness::walk::contains_liveness(ops, nums, first);
+    let calm = !owes;
+    if calm {
         return Liveness::None;
     }
     let top = liveness::walk::judge_top(ops, nums, first);

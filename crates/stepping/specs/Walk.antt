@@ -48,7 +48,7 @@ read_mon (Or m n) mem i = record {
   culprit = (get mem i).culprit;
 }
 
--- what the walk asks of the entries; a monitor that fits has it (`Fits-iff`, proofs/Fitting.antt)
+-- what the walk asks of the entries; a monitor that fits has it (`fits_iff`, proofs/Fitting.antt)
 pub record ShapedAt (m : Mon) (mem : Memory) (i : ℕ) : Type 0 where
   pub blameless : Blameless m mem i
   pub kept : WellShaped m (read_mon m mem i)

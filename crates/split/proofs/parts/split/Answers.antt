@@ -18,17 +18,17 @@ returns-then-not-is_rule c = search (rules, split_no_rule, not-true, not-false)
 pub returns-then-assumed : goal.returns-then-assumed
 returns-then-assumed c = search (rules, split_assumption, not-true, not-false)
 
-pub contains_liveness-requires : goal.contains_liveness-requires
-contains_liveness-requires c = placed_rule _ _ _ _ _ c.is_rule.ensures c.if-not-is_rule.false
+pub contains_liveness-owes-requires : goal.contains_liveness-owes-requires
+contains_liveness-owes-requires c = placed_rule _ _ _ _ _ c.is_rule.ensures c.if-not-is_rule.false
 
-pub returns-then-not-contains_liveness : goal.returns-then-not-contains_liveness
-returns-then-not-contains_liveness c = search (rules, split_calm, not-true, not-false)
+pub returns-then-calm : goal.returns-then-calm
+returns-then-calm c = search (rules, split_calm, not-true, not-false)
 
 pub judge_top-top-requires : goal.judge_top-top-requires
 judge_top-top-requires c = placed_rule _ _ _ _ _ c.is_rule.ensures c.if-not-is_rule.false
 
 pub decompose_top-filled-requires : goal.decompose_top-filled-requires
-decompose_top-filled-requires c = let a = c.args in search (rules, ready_rule a.ops.now a.nums.now a.first a.count a.assumed a.skeleton.now a.owed.now c.is_roomy.result c.is_roomy.ensures c.if-not-is_roomy.false c.if-skeleton-lt-SKELETON_ROOM.false c.if-owed-lt-OWED_ROOM.false c.is_rule.result c.is_rule.ensures c.if-not-is_rule.false c.if-assumed.false c.contains_liveness.result c.contains_liveness.ensures c.if-not-contains_liveness.false c.judge_top-top.result c.judge_top-top.ensures)
+decompose_top-filled-requires c = let a = c.args in search (rules, ready_rule a.ops.now a.nums.now a.first a.count a.assumed a.skeleton.now a.owed.now c.is_roomy.result c.is_roomy.ensures c.if-not-is_roomy.false c.if-skeleton-lt-SKELETON_ROOM.false c.if-owed-lt-OWED_ROOM.false c.is_rule.result c.is_rule.ensures c.if-not-is_rule.false c.if-assumed.false c.contains_liveness-owes.result c.contains_liveness-owes.ensures c.if-calm.false c.judge_top-top.result c.judge_top-top.ensures)
 
 pub returns-in-Fault : goal.returns-in-Fault
 returns-in-Fault c = search (rules, split_fault, not-true, not-false)
