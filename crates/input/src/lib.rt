@@ -1,14 +1,19 @@
 // Reading an input into a lent buffer.
 #![tactic(auto)]
 
+ghost use Rattle.std.specs.Prelude.{IfOk, length, take, ◌<◌};
 ghost use Rattle.std.specs.Io.{ReadsAtMost};
+ghost use Rattle.std.specs.Io.KnownBytes.{Consumes, IsAtEnd};
 
 use std::io;
 use std::io::Read;
 
-// Reads until `buf` is full or the input ends, and returns how many bytes it put at the start of `buf`. On an empty `buf` it makes no call.
+// Reads until `buf` is full or the input ends, and returns how many bytes it put at the start of `buf`: the input's next, and fewer than there is room for only
+// at its end. On an empty `buf` it makes no call.
 pub fn read_full<R: Read>(input: &mut R, buf: &mut [u8]) -> io::Result<usize>
-    ensures { ReadsAtMost result buf.new }
+    ensures bound { ReadsAtMost result buf.new }
+    ensures bytes { IfOk result (λ n. Consumes (R.remaining input.old) (R.remaining input.new) (take n buf.new)) }
+    ensures whole { IfOk result (λ n. n < length buf.new → IsAtEnd (R.remaining input.new)) }
 {
     let mut done = 0usize;
     while done < buf.len() {
