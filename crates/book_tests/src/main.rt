@@ -3,7 +3,7 @@
 #![tactic(auto)]
 
 use book::state::States;
-use input::read_full;
+use input::{TEXT_ROOM, read_full};
 use letters::{length, letter};
 use reader::read::{Answer, read_book};
 use reader::steps::{StepRead, next_step};
@@ -14,9 +14,6 @@ use terms::word::{RULE, SLOT, STEP};
 
 // The most places that a table here has.
 const PLACES: usize = 2050;
-
-// The bytes that are read of a book, one more than any has.
-const TEXT_ROOM: usize = 65536;
 
 fn put(rt: &impl Print, s: &[u8]) -> io::Result<()> {
     rt.write_all(s)

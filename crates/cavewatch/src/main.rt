@@ -6,13 +6,11 @@ ghost use Rattle.std.specs.Prelude.{length, take, ◌≡◌};
 ghost use Rattle.listing_text.specs.Listing.{listing};
 ghost use Rattle.cavewatch.specs.Input.{IsPrefixLen, Got, turn_of};
 
+use input::TEXT_ROOM;
 use listing::whole::{Listed, list_book};
 use std::io;
 use std::io::Read;
 use terms::limit::LISTING_BYTES;
-
-// The bytes that are read of a book, one more than any has.
-const TEXT_ROOM: usize = 65536;
 
 // What one read gave: a failure, the input's end, or so many bytes.
 #[derive(Drop)]

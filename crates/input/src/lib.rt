@@ -8,6 +8,9 @@ ghost use Rattle.std.specs.Io.KnownBytes.{Consumes, IsAtEnd};
 use std::io;
 use std::io::Read;
 
+// The bytes that are read of a text, one more than any book has.
+pub const TEXT_ROOM: usize = 65536;
+
 // Reads until `buf` is full or the input ends, and returns how many bytes it put at the start of `buf`: the input's next, and fewer than there is room for only
 // at its end. On an empty `buf` it makes no call.
 pub fn read_full<R: Read>(input: &mut R, buf: &mut [u8]) -> io::Result<usize>

@@ -12,9 +12,8 @@ use lib.ListN.{length, get_or, set, take, length-map, length-set, get_or-map}
 use lib.Seq.{length-take-le, get_or-set_same, get_or-set_other}
 use Rattle.node_table.specs.Node.{blank, struct_at, ops_of, nums_of}
 use Rattle.terms.specs.Choice.{pick}
-use Rattle.node_table.specs.Columns.{capped, end_of, HoldsColumn, Unpacked, front, Packed}
+use Rattle.node_table.specs.Columns.{capped, end_of, HoldsColumn, front}
 use Rattle.node_table.specs.declared.FormulaNode.{FormulaNode}
-use Rattle.node_table.specs.declared.Columns.{Columns}
 
 pub capped_few : (n : ℕ) → n < 1024 → n ≡ capped n
 capped_few n h = rw (lt-ltb n 1024 h)
@@ -121,9 +120,6 @@ pub record Unpacking (table : List FormulaNode) (first i : ℕ) (os ns : List �
   pub nums_are : HoldsColumn ns (nums_of table) first i
 
 module _ (table : List FormulaNode) (first : ℕ) where
-  pub unpacking_none : (os ns : List ℕ) → length os ≡ 1024 → length ns ≡ 1024 → Unpacking table first first os ns
-  unpacking_none os ns e f = record { above = omega arith; ops_room = e; nums_room = f; ops_are = λ k above below. absurd (omega arith); nums_are = λ k above below. absurd (omega arith) }
-
   pub unpacking_more : (i : ℕ) (os ns : List ℕ) → Unpacking table first i os ns → i < 1024
       → Unpacking table first (i + 1) (set os i (struct_at table i).op) (set ns i (struct_at table i).num)
   unpacking_more i os ns u h = record {
@@ -132,15 +128,6 @@ module _ (table : List FormulaNode) (first : ℕ) where
     nums_room = length-set ns i _ ∙ u.nums_room;
     ops_are = holds_next (λ y. y.op) refl table os first i u.above (omega (arith, u.ops_room)) u.ops_are;
     nums_are = holds_next (λ y. y.num) refl table ns first i u.above (omega (arith, u.nums_room)) u.nums_are;
-  }
-
-  pub unpacking_all : (count n i : ℕ) (os ns : List ℕ) → Unpacking table first i os ns → n ≡ capped (length table) → end_of n first count ≤ i
-      → Unpacked table first count (record { count = n; ops = os; nums = ns })
-  unpacking_all count n i os ns u e over = record {
-    lent = e;
-    inside = record { ops = omega (arith, u.ops_room, capped_all (length table)); nums = omega (arith, u.nums_room, capped_all (length table)) };
-    ops = λ k above below. u.ops_are k above (omega arith);
-    nums = λ k above below. u.nums_are k above (omega arith);
   }
 
 -- a place that is read lies in the columns and in the table
@@ -157,9 +144,6 @@ pub record Packing (os ns : List ℕ) (n : ℕ) (before : List FormulaNode) (i :
   pub nums_are : nums_of table ≡ front i ns (nums_of before)
 
 module _ (os ns : List ℕ) (n : ℕ) (before : List FormulaNode) where
-  pub packing_none : Packing os ns n before 0 before
-  packing_none = record { upto = omega arith; same = refl; ops_are = refl; nums_are = refl }
-
   pub packing_more : (i : ℕ) (table : List FormulaNode) → n ≤ length os → n ≤ length ns → n ≤ length before → Packing os ns n before i table → i < n
       → Packing os ns n before (i + 1) (set table i (record { op = get_or os i 0; num = get_or ns i 0 }))
   packing_more i table lo ln lb p h = record {
@@ -168,10 +152,3 @@ module _ (os ns : List ℕ) (n : ℕ) (before : List FormulaNode) where
     ops_are = stores (λ y. y.op) table before os i _ refl (omega arith) (omega arith) p.ops_are;
     nums_are = stores (λ y. y.num) table before ns i _ refl (omega arith) (omega arith) p.nums_are;
   }
-
-pub packing_all : (c : Columns) (before : List FormulaNode) (i : ℕ) (table : List FormulaNode) → Packing c.ops c.nums c.count before i table → c.count ≤ i → Packed c before table
-packing_all c before i table p over =
-    let all : i ≡ c.count = omega (arith, p.upto) in record {
-      ops = p.ops_are ∙ ap (λ (k : ℕ). front k c.ops (ops_of before)) all;
-      nums = p.nums_are ∙ ap (λ (k : ℕ). front k c.nums (nums_of before)) all;
-    }

@@ -2,7 +2,7 @@
 // a book. data/made says how the two files were made.
 #![tactic(auto)]
 
-use input::read_full;
+use input::{TEXT_ROOM, read_full};
 use listing::whole::{Listed, list_book};
 use std::io::Read;
 use std::{fs, io};
@@ -10,9 +10,6 @@ use terms::limit::LISTING_BYTES;
 
 // More than any text's length: there is none.
 const NONE: usize = 1000000;
-
-// Room for a text: a book or a stored answer.
-const TEXT_ROOM: usize = 65536;
 
 fn put(rt: &impl Print, s: &[u8]) -> io::Result<()> {
     rt.write_all(s)

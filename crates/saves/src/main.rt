@@ -30,13 +30,10 @@ use crate::call::Part;
 use crate::rule::run_rule;
 use crate::show::show_refused;
 use compiler::{Compiled, compile_formula};
-use input::read_full;
+use input::{TEXT_ROOM, read_full};
 use reader::read::{Answer, read_book};
 use std::io;
 use terms::limit::{BOOK_CELLS, BOOK_NODES, BOOK_RULES, BOOK_SLOTS, LABELS_ROOM, NAMES_ROOM};
-
-// The bytes that are read of a book, one more than any has.
-const TEXT_ROOM: usize = 65536;
 
 // Compiles the rule at `first` into the rows from row `first` on.
 fn compile_at(ops: &[u8], nums: &[u64], first: usize, count: usize, nodes: &mut [u64]) -> Compiled {

@@ -2,7 +2,7 @@
 -- the first report among those, with its culprit.
 --     off_after    the bytes after some steps from fresh
 --     on_again     the first report of the monitor that the bytes give, stepped on
--- `all-saves` (proofs/Worked.antt): each row is so, by computing.
+-- No row stands here yet.
 use Rattle.std.specs.Prelude.{true, false, List, [], ◌∷◌, ◌≡◌, ℕ, suc, ℤ, pos, length, replicate}
 use Rattle.std.proofs.Math.Option.{Option}
 use Rattle.monitor.specs.Mon.{Mon, count}

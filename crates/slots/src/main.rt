@@ -15,14 +15,11 @@ use crate::compile::{Opening, compile_rules, lay_out};
 use crate::misuse::try_misuse;
 use crate::show::{show_alike, show_number, show_plan, show_refused, show_rules, show_vars};
 use book::state::state_count;
-use input::read_full;
+use input::{TEXT_ROOM, read_full};
 use layout::book::BookLayout;
 use reader::read::{Answer, read_book};
 use std::io;
 use terms::limit::{BOOK_CELLS, BOOK_NODES, BOOK_RULES, BOOK_SLOTS, LABELS_ROOM, NAMES_ROOM};
-
-// The bytes that are read of a book, one more than any has.
-const TEXT_ROOM: usize = 65536;
 
 // The n rules as they are compiled: laid out, shown, and compared.
 fn run_compiled(

@@ -1,9 +1,9 @@
 -- What a call over the columns of a rule's own places gives is what it gives over the whole table.
-use mathlib.Core.List.{List, map, map-id}
+use mathlib.Core.List.{List}
 use mathlib.Core.Option.{Option, none, some}
-use mathlib.Core.Path.{◌≡◌, refl, sym, ap, ap₂, subst}
-use Prim.Native.Nat.{ℕ, ◌≤◌}
-use lib.ListN.{length, take}
+use mathlib.Core.Path.{◌≡◌, refl, sym, ap}
+use Prim.Native.Nat.{ℕ}
+use lib.ListN.{take}
 use Rattle.formula.specs.Formula.{Formula}
 use Rattle.monitor.specs.Mon.{Mon}
 use Rattle.monitor.specs.Table.{compiled_of, mon_by}
@@ -18,26 +18,10 @@ use Rattle.node_table.specs.declared.FormulaNode.{FormulaNode}
 use Rattle.node_table.proofs.Own.{own_room, own_rule}
 use Rattle.table_step.specs.Over.{tables_over}
 
--- the columns' arrays, as the struct holds them
-abbrev pub os₀ : Columns → List ℕ
-os₀ c = map (λ v. v) c.ops
-
-abbrev pub ns₀ : Columns → List ℕ
-ns₀ c = map (λ v. v) c.nums
-
 module _ (table : List FormulaNode) (first count : ℕ) (nodes : List ℕ) (nfirst ncount : ℕ) (c : Columns) (u : Unpacked table first count c) where
   -- the tables of the call over the columns
   abbrev pub columned : LentTables
   columned = tables (take c.count c.ops) (take c.count c.nums) first count nodes nfirst ncount
-
-  pub as_held : tables (take c.count (os₀ c)) (take c.count (ns₀ c)) first count nodes nfirst ncount ≡ columned
-  as_held = ap₂ (λ (os ns : List ℕ). tables (take c.count os) (take c.count ns) first count nodes nfirst ncount) (map-id c.ops) (map-id c.nums)
-
-  pub in_ops : c.count ≤ length (os₀ c)
-  in_ops = subst (λ (l : List ℕ). c.count ≤ length l) (sym (map-id c.ops)) u.inside.ops
-
-  pub in_nums : c.count ≤ length (ns₀ c)
-  in_nums = subst (λ (l : List ℕ). c.count ≤ length l) (sym (map-id c.nums)) u.inside.nums
 
   mon_own : rule_mon columned ≡ rule_mon (tables_over table first count nodes nfirst ncount)
   unfolding compiled_of

@@ -3,7 +3,7 @@
 #![tactic(auto)]
 
 use compiler::{Compiled, compile_formula};
-use input::read_full;
+use input::{TEXT_ROOM, read_full};
 use layout::rule::{NodeSlot, RuleBits, layout_for, node_slot};
 use reader::read::{Answer, read_book};
 use reader::steps::{StepRead, next_step};
@@ -16,9 +16,6 @@ use terms::limit::{
     BOOK_NODES, BOOK_RULES, BOOK_SLOTS, LABELS_ROOM, NAMES_ROOM, NODE_CELLS, OWED_ROOM, RULE_NODES,
     SKELETON_ROOM,
 };
-
-// The bytes that are read of a book, one more than any has.
-const TEXT_ROOM: usize = 65536;
 
 fn put(rt: &impl Print, s: &[u8]) -> io::Result<()> {
     rt.write_all(s)

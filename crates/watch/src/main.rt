@@ -6,7 +6,7 @@
 mod rule;
 
 use crate::rule::{Watched, watch_rule};
-use input::read_full;
+use input::{TEXT_ROOM, read_full};
 use lending::split_over;
 use lending_read::read_over;
 use node_table::FormulaNode;
@@ -16,9 +16,6 @@ use std::io;
 use terms::limit::{
     BOOK_NODES, BOOK_RULES, BOOK_SLOTS, LABELS_ROOM, NAMES_ROOM, OWED_ROOM, SKELETON_ROOM,
 };
-
-// The bytes that are read of a book, one more than any has.
-const TEXT_ROOM: usize = 65536;
 
 fn put(rt: &impl Print, s: &[u8]) -> io::Result<()> {
     rt.write_all(s)

@@ -1,7 +1,6 @@
 use Prim.Native.Nat.{◌+◌}
 use mathlib.Core.Path.{sym, subst}
 use Rattle.node_table.specs.declared.FormulaNode.{FormulaNode}
-use Rattle.node_table.specs.Node.{struct_at}
 use lib.ListN.{set}
 use Rattle.node_table.proofs.Filling.{Unpacking, unpacking_more, unpacks_in}
 use Rattle.node_table.proofs.unpack.Goals as goal
