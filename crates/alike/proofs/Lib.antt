@@ -1,5 +1,4 @@
 -- Laws of the definitions, for this crate's proofs and for those above.
-pub mod Texts
 pub mod Spellings
 pub mod Nodes
 pub mod Matches

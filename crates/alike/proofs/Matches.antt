@@ -3,7 +3,7 @@ use mathlib.Core.Path.{◌≡◌, refl, sym, ap, ap₂, subst, ◌∙◌}
 use mathlib.Core.Bool.{Bool, true, false, ◌&&◌}
 use mathlib.Core.List.{List, [], ◌∷◌, ◌++◌, append_assoc, append-nil}
 use mathlib.Core.Option.{Option, none, some}
-use Prim.Native.Nat.{ℕ, suc, ◌+◌, ◌-◌}
+use Prim.Native.Nat.{ℕ, suc}
 use native.Mathlib.Omega.{arith}
 use lib.ListN.{length}
 use Rattle.formula.specs.Tree.{Tree, leaf, one, two, leaf_of, unknown, prefix}
@@ -12,9 +12,9 @@ use Rattle.formula.specs.Table.{Rule}
 use Rattle.formula.proofs.Trees.{some_inj}
 use Rattle.monitor.specs.declared.node.SignalExpr.{SignalExpr}
 use Rattle.monitor.specs.declared.node.SignalExpr.TheVariants.{True, At}
+use Rattle.monitor.specs.declared.node.MonNode.{MonNode}
 use Rattle.monitor.specs.declared.node.MonNode.TheVariants.{RangeCheck, DelayedCheck, Obligation, And as AndNode, Or as OrNode}
-use Rattle.monitor.specs.declared.node.Row.{Row}
-use Rattle.monitor.specs.declared.node.Row.TheVariants.{Node, Unknown}
+use Rattle.std.specs.Prelude.{None, Option as Opt, Some}
 use Rattle.monitor.specs.declared.range.AnchorRange.{AnchorRange}
 use Rattle.monitor.specs.Mon.{Signal, Check, range_check, delayed_check, obligation}
 use Rattle.monitor.specs.Table.{Never, Join, join_and, join_or, Cell, signal_of, checked, cell_of, from_tree}
@@ -84,36 +84,36 @@ module _ (ops nums : List ℕ) (first count : ℕ) (f : Formula) (rule : Rule op
       subst (Means ops nums (At p)) (sym e) (record { is = refl; sound = record { spells = s.spells; is_pure = s.is_pure; in_ops = s.in_ops; in_nums = s.in_nums } })
 
   shows_one : (s : SignalExpr) (r : AnchorRange) (o : Option Signal) → signal_of f first s ≡ o → (checked (λ x. leaf_of (range_check x r)) o ≡ unknown → ⊥)
-      → Shows ops nums (Node (RangeCheck s r)) (checked (λ x. leaf_of (range_check x r)) o)
+      → Shows ops nums (Some (RangeCheck s r)) (checked (λ x. leaf_of (range_check x r)) o)
   shows_one s r none e h = absurd (h refl)
   shows_one s r (some x) e h =
       let m = signal_means s x e in
-      record { is = ap (λ (y : SignalExpr). Node (RangeCheck y r)) m.is; known = h; sound = (m.sound, m.sound) }
+      record { is = ap (λ (y : SignalExpr). Some (RangeCheck y r)) m.is; known = h; sound = (m.sound, m.sound) }
 
   shows_delayed : (s t : SignalExpr) (r : AnchorRange) (o o' : Option Signal) → signal_of f first s ≡ o → signal_of f first t ≡ o'
       → (checked (λ x. checked (λ y. leaf_of (delayed_check x y r)) o') o ≡ unknown → ⊥)
-      → Shows ops nums (Node (DelayedCheck s t r)) (checked (λ x. checked (λ y. leaf_of (delayed_check x y r)) o') o)
+      → Shows ops nums (Some (DelayedCheck s t r)) (checked (λ x. checked (λ y. leaf_of (delayed_check x y r)) o') o)
   shows_delayed s t r none o' e e' h = absurd (h refl)
   shows_delayed s t r (some x) none e e' h = absurd (h refl)
   shows_delayed s t r (some x) (some y) e e' h =
       let m = signal_means s x e in
       let n = signal_means t y e' in
-      record { is = ap₂ (λ (a b : SignalExpr). Node (DelayedCheck a b r)) m.is n.is; known = h; sound = (m.sound, n.sound) }
+      record { is = ap₂ (λ (a b : SignalExpr). Some (DelayedCheck a b r)) m.is n.is; known = h; sound = (m.sound, n.sound) }
 
   shows_owed : (b : ℕ) (s t : SignalExpr) (r : AnchorRange) (o o' : Option Signal) → signal_of f first s ≡ o → signal_of f first t ≡ o'
       → (checked (λ x. checked (λ y. leaf_of (obligation b x y r)) o') o ≡ unknown → ⊥)
-      → Shows ops nums (Node (Obligation b s t r)) (checked (λ x. checked (λ y. leaf_of (obligation b x y r)) o') o)
+      → Shows ops nums (Some (Obligation b s t r)) (checked (λ x. checked (λ y. leaf_of (obligation b x y r)) o') o)
   shows_owed b s t r none o' e e' h = absurd (h refl)
   shows_owed b s t r (some x) none e e' h = absurd (h refl)
   shows_owed b s t r (some x) (some y) e e' h =
       let m = signal_means s x e in
       let n = signal_means t y e' in
-      record { is = ap₂ (λ (a c : SignalExpr). Node (Obligation b a c r)) m.is n.is; known = h; sound = (m.sound, n.sound) }
+      record { is = ap₂ (λ (a c : SignalExpr). Some (Obligation b a c r)) m.is n.is; known = h; sound = (m.sound, n.sound) }
 
-  pub cell_shown : (w : Row) → (cell_of f first w ≡ unknown → ⊥) → Shows ops nums w (cell_of f first w)
-  cell_shown (Node (RangeCheck s r)) h = shows_one s r (signal_of f first s) refl h
-  cell_shown (Node (DelayedCheck s t r)) h = shows_delayed s t r (signal_of f first s) (signal_of f first t) refl refl h
-  cell_shown (Node (Obligation b s t r)) h = shows_owed b s t r (signal_of f first s) (signal_of f first t) refl refl h
-  cell_shown (Node AndNode) h = record { is = refl; known = h; sound = omega arith }
-  cell_shown (Node OrNode) h = record { is = refl; known = h; sound = omega arith }
-  cell_shown Unknown h = absurd (h refl)
+  pub cell_shown : (w : Opt MonNode) → (cell_of f first w ≡ unknown → ⊥) → Shows ops nums w (cell_of f first w)
+  cell_shown (Some (RangeCheck s r)) h = shows_one s r (signal_of f first s) refl h
+  cell_shown (Some (DelayedCheck s t r)) h = shows_delayed s t r (signal_of f first s) (signal_of f first t) refl refl h
+  cell_shown (Some (Obligation b s t r)) h = shows_owed b s t r (signal_of f first s) (signal_of f first t) refl refl h
+  cell_shown (Some AndNode) h = record { is = refl; known = h; sound = omega arith }
+  cell_shown (Some OrNode) h = record { is = refl; known = h; sound = omega arith }
+  cell_shown None h = absurd (h refl)

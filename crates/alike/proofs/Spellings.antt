@@ -1,32 +1,27 @@
 -- The signs read off the table are the signal's text, and the comparison of two signals.
 use mathlib.Core.Path.{◌≡◌, refl, sym, ap, ap₂, subst, ◌∙◌}
 use mathlib.Core.Bool.{Bool, true, false}
-use mathlib.Core.List.{List, [], ◌∷◌, ◌++◌, append_assoc}
-use Prim.Native.Nat.{ℕ, zero, suc, ◌+◌, ◌-◌, ◌≤◌, ◌<◌}
+use mathlib.Core.List.{List, ◌∷◌, ◌++◌, append_assoc}
+use Prim.Native.Nat.{ℕ, zero, suc, ◌+◌, ◌-◌, ◌<◌}
 use native.Mathlib.Omega.{arith}
 use native.Mathlib.Numerals.{one-add}
 use native.Mathlib.Nat.{suc-add, zero-add, add_assoc, add-zero}
-use lib.ListN.{length, get_or}
+use lib.ListN.{get_or}
 use borrow.Author.Tests.{lt-ltb}
 use Rattle.formula.specs.Tree.{leaf, one, two, leaf_of, size}
 use Rattle.formula.specs.Spells.{Spells}
 use Rattle.formula.specs.Formula.{Atom, Formula, node, var, input, output, not, next, always, eventually, always_for, within, and, or, implies, until}
-use Rattle.formula.specs.Table.{node_at, Placed}
+use Rattle.formula.specs.Table.{node_at}
 use Rattle.formula.specs.Pure.{pure}
 use Rattle.formula.specs.Signal.{Purely}
 use Rattle.formula.specs.Text.{Sign, sign, signs_by, signs}
-use Rattle.formula.specs.declared.table.Walk.{Walk}
-use Rattle.formula.specs.declared.table.Walk.TheVariants.{Upto, Stuck}
+use Rattle.std.specs.Prelude.{Option, Some}
 use Rattle.formula.proofs.Cases.{true_false}
 use Rattle.formula.proofs.Nodes.{number_of, atom_number, unary_number, binary_number}
 use Rattle.formula.proofs.Walks.{both_true}
-use Rattle.formula.proofs.Signals.{purely_yes, purely_no}
-use Rattle.monitor.specs.declared.node.SignalExpr.{SignalExpr}
-use Rattle.monitor.specs.declared.node.SignalExpr.TheVariants.{True, At}
-use Rattle.monitor.specs.Mon.{Signal, always_true, at}
+use Rattle.formula.proofs.Signals.{purely_yes}
 use Rattle.alike.specs.Text.{agree}
-use Rattle.alike.specs.Alike.{alike_signal}
-use Rattle.alike.specs.Signs.{atom_of, signs_at, signs_from, rest, Spelt, IsSpelt, LikenedAt, Means, IsMeant, Likened}
+use Rattle.alike.specs.Signs.{atom_of, signs_at, signs_from, rest, Spelt, LikenedAt}
 
 -- ---- the signs of a formula's places
 atom_low : (a : Atom) → number_of (leaf_of a) < 3
@@ -90,67 +85,16 @@ module _ (ops nums : List ℕ) where
       ∙ ap (λ (xs : List Sign). sign 124 ∷ sign 33 ∷ xs) (both_signs l r (i + 1) (spelt_signs l (i + 1) s.1 p) (spelt_signs r (i + 1 + size l) s.2 q)))
   spelt_signs (two until l r) i s h = true_false h refl
 
-  -- ---- two places
-  pub placed_spelt : (p : ℕ) → IsSpelt ops nums p → Placed ops nums p
-  placed_spelt p u = record { formula = u.formula; spells = u.spelt.spells; in_ops = u.spelt.in_ops; in_nums = u.spelt.in_nums }
-
-  module _ (p : ℕ) (v : Walk) (a : Purely ops nums p v) where
-    pub first_stuck : (q : ℕ) → v ≡ Stuck → LikenedAt ops nums p q false
-    first_stuck q e = record { is = λ f g x y. true_false x.is_pure (purely_no ops nums p v a f x.spells e) }
-
-    pub second_stuck : (q : ℕ) → v ≡ Stuck → LikenedAt ops nums q p false
-    second_stuck q e = record { is = λ f g x y. true_false y.is_pure (purely_no ops nums p v a g y.spells e) }
-
-    module _ (e : ℕ) (u : IsSpelt ops nums p) (z : v ≡ Upto e) where
-      pub text_in_ops : e ≤ length ops
-      text_in_ops = omega (arith, (purely_yes ops nums p v a u.formula u.spelt.spells e z).1, u.spelt.in_ops)
-
-      pub text_in_nums : e ≤ length nums
-      text_in_nums = omega (arith, (purely_yes ops nums p v a u.formula u.spelt.spells e z).1, u.spelt.in_nums)
-
   -- all of the text is left at its start
-  whole_text : (p e : ℕ) (v : Walk) (f : Formula) → Purely ops nums p v → v ≡ Upto e → Spelt ops nums p f → rest ops nums (record { at = p; owes = false }) e ≡ signs f
+  whole_text : (p e : ℕ) (v : Option ℕ) (f : Formula) → Purely ops nums p v → v ≡ Some e → Spelt ops nums p f → rest ops nums (record { at = p; owes = false }) e ≡ signs f
   unfolding rest
   whole_text p e v f a z x =
       let n : e ≡ p + size f = (purely_yes ops nums p v a f x.spells e z).1 in
       let k : e - p ≡ size f = omega arith in
       ap (signs_from ops nums p) k ∙ spelt_signs f p x.spells x.is_pure
 
-  pub both_texts : (p q e e' : ℕ) (v w : Walk) → Purely ops nums p v → Purely ops nums q w → v ≡ Upto e → w ≡ Upto e' → (r : Bool)
+  pub both_texts : (p q e e' : ℕ) (v w : Option ℕ) → Purely ops nums p v → Purely ops nums q w → v ≡ Some e → w ≡ Some e' → (r : Bool)
       → r ≡ agree (rest ops nums (record { at = p; owes = false }) e) (rest ops nums (record { at = q; owes = false }) e') → LikenedAt ops nums p q r
   both_texts p q e e' v w a b y z r h = record {
     is = λ f g s t. h ∙ ap₂ agree (whole_text p e v f a y s) (whole_text q e' w g b z t);
-  }
-
--- ---- two signals
-mean_true : (ops nums : List ℕ) (e : SignalExpr) (s : Signal) → Means ops nums e s → e ≡ True → s ≡ always_true
-mean_true ops nums e always_true m h = refl
-mean_true ops nums e (at p f) m h = let i : e ≡ At p = m.is in let z : ◌≡◌ {A = ℕ} 0 1 = cc in absurd (omega arith)
-
-mean_at : (ops nums : List ℕ) (e : SignalExpr) (s : Signal) (p : ℕ) → Means ops nums e s → e ≡ At p → (f : Formula) × (s ≡ at p f) × Spelt ops nums p f
-mean_at ops nums e always_true p m h = let i : e ≡ True = m.is in let z : ◌≡◌ {A = ℕ} 0 1 = cc in absurd (omega arith)
-mean_at ops nums e (at q f) p m h =
-    let i : e ≡ At q = m.is in
-    let k : q ≡ p = cc in
-    (f, ap (λ (n : ℕ). at n f) k, subst (λ (n : ℕ). Spelt ops nums n f) k m.sound)
-
-pub meant_at : (ops nums : List ℕ) (e : SignalExpr) (p : ℕ) → IsMeant ops nums e → e ≡ At p → IsSpelt ops nums p
-meant_at ops nums e p u h = let (f, i, s) = mean_at ops nums e u.signal p u.means h in record { formula = f; spelt = s }
-
-module _ (ops nums : List ℕ) (d e : SignalExpr) where
-  pub signals_true : d ≡ True → e ≡ True → Likened ops nums d e true
-  signals_true p q = record { is = λ s t x y. sym (ap₂ alike_signal (mean_true ops nums d s x p) (mean_true ops nums e t y q)) }
-
-  pub signals_first : (j : ℕ) → d ≡ True → e ≡ At j → Likened ops nums d e false
-  signals_first j p q = record { is = λ s t x y. let (g, i, z) = mean_at ops nums e t j y q in sym (ap₂ alike_signal (mean_true ops nums d s x p) i) }
-
-  pub signals_second : (j : ℕ) → d ≡ At j → e ≡ True → Likened ops nums d e false
-  signals_second j p q = record { is = λ s t x y. let (g, i, z) = mean_at ops nums d s j x p in sym (ap₂ alike_signal i (mean_true ops nums e t y q)) }
-
-  pub signals_at : (i j : ℕ) (r : Bool) → d ≡ At i → e ≡ At j → LikenedAt ops nums i j r → Likened ops nums d e r
-  signals_at i j r p q l = record {
-    is = λ s t x y.
-        let (f, a, u) = mean_at ops nums d s i x p in
-        let (g, b, w) = mean_at ops nums e t j y q in
-        l.is f g u w ∙ sym (ap₂ alike_signal a b);
   }

@@ -1,25 +1,23 @@
--- From the rows of two compiled rules to their likeness, and the whole call.
-use mathlib.Core.Path.{◌≡◌, refl, sym, ap, ap₂, subst, ◌∙◌}
+-- From the rows of two compiled rules to their likeness.
+use mathlib.Core.Path.{◌≡◌, sym, ap, ap₂, subst, ◌∙◌}
 use mathlib.Core.Bool.{Bool, true, false, ◌&&◌}
-use mathlib.Core.List.{List, []}
-use mathlib.Core.Option.{Option, none, some}
+use mathlib.Core.List.{List}
+use mathlib.Core.Option.{Option, some}
 use Prim.Native.Nat.{ℕ, suc, ◌+◌, ◌-◌, ◌*◌, ◌≤◌, ◌<◌}
 use native.Mathlib.Omega.{arith}
 use lib.ListN.{length}
-use borrow.Author.Tests.{le-leb, lt-leb}
-use Rattle.result.specs.Result.{given, refused, or_else}
 use Rattle.formula.specs.Tree.{Tree, unknown, prefix}
 use Rattle.formula.specs.Spells.{run}
 use Rattle.formula.specs.Formula.{Formula}
-use Rattle.formula.specs.Table.{rule_of, is_some, roomy}
+use Rattle.formula.specs.Table.{rule_of}
 use Rattle.formula.proofs.Trees.{prefix_length, spells_run}
 use Rattle.formula.proofs.Nodes.{known_at}
 use Rattle.formula.proofs.Rules.{rule_inv}
-use Rattle.monitor.specs.Mon.{Check, Mon}
+use Rattle.monitor.specs.Mon.{Check}
 use Rattle.monitor.specs.Table.{Never, Join, Cell, cell_of, cell_by, cells, row_of, from_tree}
 use Rattle.monitor.proofs.HeldTree.{HoldsTree, held_inv}
-use Rattle.alike.specs.declared.Part.{Part}
-use Rattle.alike.specs.Alike.{part_of, likened, likeness_call, alike_some}
+use Rattle.monitor.specs.declared.table.Part.{Part}
+use Rattle.alike.specs.Alike.{part_of, alike_some}
 use Rattle.alike.specs.Rows.{alike_cells, Shows, IsShown, SameRow, IsCompiled}
 use Rattle.alike.proofs.Matches.{trees_alike, lengths_differ, cell_shown}
 
@@ -82,16 +80,6 @@ module _ (ops nums nodes : List ℕ) where
     pub within : k ≤ n
     pub is : (s t : ℕ → Cell) → Rowed s i n → Rowed t j n → alike_cells (run s i n) (run t j n) ≡ alike_cells (run s (i + k) (n - k)) (run t (j + k) (n - k))
 
-  pub agreed_none : (n i j : ℕ) → Agreed n i j 0
-  agreed_none n i j = record {
-    within = omega arith;
-    is = λ s t x y.
-        let p : n ≡ n - 0 = omega arith in
-        let a : i ≡ i + 0 = omega arith in
-        let b : j ≡ j + 0 = omega arith in
-        ap₂ (λ (u v : List Cell). alike_cells u v) (ap₂ (run s) a p) (ap₂ (run t) b p);
-  }
-
   module _ (n i j k : ℕ) (u : Agreed n i j k) (h : k < n) (r : Bool) (w : SameRow ops nums (row_of nodes (i + k)) (row_of nodes (j + k)) r) where
     one_row : (s t : ℕ → Cell) → Rowed s i n → Rowed t j n → alike_cells (run s i n) (run t j n) ≡ (r && alike_cells (run s (i + k + 1) (n - (k + 1))) (run t (j + k + 1) (n - (k + 1))))
     unfolding run alike_cells
@@ -148,66 +136,3 @@ module _ (ops nums nodes : List ℕ) where
 
     pub shown_row_second : (n : ℕ) → n ≡ a.ncount → k < n → IsShown ops nums (row_of nodes (a.nfirst + k))
     shown_row_second n e h = shown_row (omega arith)
-
-  -- ---- the whole call
-  pub part_compiled : (a : Part) (c : Bool) → c ≡ is_some (part_of ops nums nodes a) → c ≡ true → IsCompiled ops nums nodes a
-  part_compiled a c p q = go (part_of ops nums nodes a) refl (sym p ∙ q)
-    where
-      go : (o : Option Mon) → part_of ops nums nodes a ≡ o → is_some o ≡ true → IsCompiled ops nums nodes a
-      go none e w = let z : ◌≡◌ {A = ℕ} 0 1 = cc in absurd (omega arith)
-      go (some m) e w = record { mon = m; is = e }
-
-  pub short_nodes : (a b : Part) → length nodes < 1792 → refused 1 ≡ likeness_call ops nums nodes a b
-  unfolding likeness_call
-  short_nodes a b h = sym (ap (λ (t : Bool). or_else t 1 (likened (part_of ops nums nodes a) (part_of ops nums nodes b))) (ap (roomy ops nums &&◌) (lt-leb 1792 (length nodes) h) ∙ and_no (roomy ops nums)))
-    where
-      and_no : (t : Bool) → (t && false) ≡ false
-      and_no true = refl
-      and_no false = refl
-
-  module _ (a b : Part) (h : 1792 ≤ length nodes) (v : Bool) (p : v ≡ roomy ops nums) where
-    by_room : likeness_call ops nums nodes a b ≡ or_else v 1 (likened (part_of ops nums nodes a) (part_of ops nums nodes b))
-    unfolding likeness_call
-    by_room = ap (λ (t : Bool). or_else t 1 (likened (part_of ops nums nodes a) (part_of ops nums nodes b))) (ap₂ ◌&&◌ (sym p) (le-leb 1792 (length nodes) h) ∙ and_yes v)
-      where
-        and_yes : (t : Bool) → (t && true) ≡ t
-        and_yes true = refl
-        and_yes false = refl
-
-    pub not_roomy : v ≡ false → refused 1 ≡ likeness_call ops nums nodes a b
-    not_roomy q = sym (by_room ∙ ap (λ (t : Bool). or_else t 1 (likened (part_of ops nums nodes a) (part_of ops nums nodes b))) q)
-
-    module _ (q : v ≡ true) (c : Bool) (r : c ≡ is_some (part_of ops nums nodes a)) where
-      by_parts : likeness_call ops nums nodes a b ≡ likened (part_of ops nums nodes a) (part_of ops nums nodes b)
-      by_parts = by_room ∙ ap (λ (t : Bool). or_else t 1 (likened (part_of ops nums nodes a) (part_of ops nums nodes b))) q
-
-      pub first_none : c ≡ false → refused 2 ≡ likeness_call ops nums nodes a b
-      first_none z = sym (by_parts ∙ go (part_of ops nums nodes a) (sym r ∙ z))
-        where
-          go : (o : Option Mon) → is_some o ≡ false → likened o (part_of ops nums nodes b) ≡ refused 2
-          go none e = refl
-          go (some m) e = let z : ◌≡◌ {A = ℕ} 0 1 = cc in absurd (omega arith)
-
-      module _ (z : c ≡ true) (d : Bool) (s : d ≡ is_some (part_of ops nums nodes b)) where
-        pub second_none : d ≡ false → refused 2 ≡ likeness_call ops nums nodes a b
-        second_none y = sym (by_parts ∙ go (part_of ops nums nodes a) (part_of ops nums nodes b) (sym s ∙ y))
-          where
-            go : (o o' : Option Mon) → is_some o' ≡ false → likened o o' ≡ refused 2
-            go none o' e = refl
-            go (some m) none e = refl
-            go (some m) (some n) e = let z : ◌≡◌ {A = ℕ} 0 1 = cc in absurd (omega arith)
-
-        module _ (y : d ≡ true) (t : Bool) (l : t ≡ alike_some (part_of ops nums nodes a) (part_of ops nums nodes b)) where
-          as_said : likeness_call ops nums nodes a b ≡ given t
-          as_said = by_parts ∙ go (part_of ops nums nodes a) (part_of ops nums nodes b) (sym r ∙ z) (sym s ∙ y) ∙ ap given (sym l)
-            where
-              go : (o o' : Option Mon) → is_some o ≡ true → is_some o' ≡ true → likened o o' ≡ given (alike_some o o')
-              go none o' e f = let z : ◌≡◌ {A = ℕ} 0 1 = cc in absurd (omega arith)
-              go (some m) none e f = let z : ◌≡◌ {A = ℕ} 0 1 = cc in absurd (omega arith)
-              go (some m) (some n) e f = refl
-
-          pub both_alike : t ≡ true → given true ≡ likeness_call ops nums nodes a b
-          both_alike x = sym (as_said ∙ ap given x)
-
-          pub both_unlike : t ≡ false → given false ≡ likeness_call ops nums nodes a b
-          both_unlike x = sym (as_said ∙ ap given x)

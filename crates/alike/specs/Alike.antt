@@ -1,6 +1,5 @@
 -- Document 01, "The listing": two compiled rules are alike if nodes agree one for one, signal text compared with v, i, o taken as one letter.
 --     alike_mon         likeness of two compiled rules
---     result_of         document 01's result of the answer enum
 --     likeness_call     the whole call: whether the rules are alike, or the refusal
 use Rattle.std.specs.Prelude.{Bool, true, false, ◌&&◌, List, ℕ, eqb, leb, length}
 use Rattle.std.proofs.Math.Option.{Option, none, some}
@@ -13,9 +12,7 @@ use Rattle.monitor.specs.declared.range.AnchorRange.{AnchorRange}
 use Rattle.monitor.specs.Mon.{Signal, always_true, at, Check, range_check, delayed_check, obligation, Mon, check, And, Or}
 use Rattle.monitor.specs.Table.{compiled_of}
 use Rattle.alike.specs.Text.{alike_text}
-use Rattle.alike.specs.declared.Likeness.{Likeness}
-use Rattle.alike.specs.declared.Likeness.TheVariants.{Alike, Unlike, Refused}
-use Rattle.alike.specs.declared.Part.{Part}
+use Rattle.monitor.specs.declared.table.Part.{Part}
 
 -- the constant true with itself; two formulas by their text, wherever they stand
 abbrev pub alike_signal : Signal → Signal → Bool
@@ -65,12 +62,6 @@ alike_mon (Or l r) (Or m n) = alike_mon l m && alike_mon r n
 -- the compiled rule that a part of the two tables holds
 abbrev pub part_of : List ℕ → List ℕ → List ℕ → Part → Option Mon
 part_of ops nums nodes a = compiled_of ops nums a.first a.count nodes a.nfirst a.ncount
-
--- document 01's result of an answer: whether the rules are alike, or the refusal
-abbrev pub result_of : Likeness → Result Bool
-result_of Alike = given true
-result_of Unlike = given false
-result_of (Refused n) = refused n
 
 -- refusal 2: one of the two is no compiled rule
 abbrev pub likened : Option Mon → Option Mon → Result Bool

@@ -6,13 +6,12 @@ use Rattle.std.proofs.Math.Option.{some}
 use Rattle.formula.specs.Tree.{leaf_of, one_of, two_of, unknown}
 use Rattle.monitor.specs.declared.node.MonNode.{MonNode}
 use Rattle.monitor.specs.declared.node.MonNode.TheVariants.{And as AndNode, Or as OrNode}
-use Rattle.monitor.specs.declared.node.Row.{Row}
-use Rattle.monitor.specs.declared.node.Row.TheVariants.{Node, Unknown}
+use Rattle.std.specs.Prelude.{None, Option, Some}
 use Rattle.monitor.specs.Mon.{Check, range_check, delayed_check, obligation, Mon, node_of}
 use Rattle.monitor.specs.Table.{Cell, Join, join_and, join_or}
 use Rattle.alike.specs.Alike.{alike_check, part_of}
 use Rattle.alike.specs.Signs.{Sound}
-use Rattle.alike.specs.declared.Part.{Part}
+use Rattle.monitor.specs.declared.table.Part.{Part}
 
 -- ---- likeness of two cells, and of two lists of them
 abbrev pub alike_join : Join → Join → Bool
@@ -44,11 +43,11 @@ abbrev pub join_row : Join → MonNode
 join_row join_and = AndNode
 join_row join_or = OrNode
 
-abbrev pub row_for : Cell → Row
-row_for (leaf_of c) = Node (node_of c)
-row_for (one_of n) = Unknown
-row_for (two_of j) = Node (join_row j)
-row_for unknown = Unknown
+abbrev pub row_for : Cell → Option MonNode
+row_for (leaf_of c) = Some (node_of c)
+row_for (one_of n) = None
+row_for (two_of j) = Some (join_row j)
+row_for unknown = None
 
 abbrev pub SoundCheck : List ℕ → List ℕ → Check → Type 0
 SoundCheck ops nums (range_check s r) = Sound ops nums s × Sound ops nums s
@@ -61,16 +60,16 @@ SoundCell ops nums (one_of n) = 0 ≤ 0
 SoundCell ops nums (two_of j) = 0 ≤ 0
 SoundCell ops nums unknown = 0 ≤ 0
 
-pub record Shows (ops nums : List ℕ) (r : Row) (c : Cell) : Type 0 where
+pub record Shows (ops nums : List ℕ) (r : Option MonNode) (c : Cell) : Type 0 where
   pub is : r ≡ row_for c
   pub known : c ≡ unknown → ⊥
   pub sound : SoundCell ops nums c
 
-pub record IsShown (ops nums : List ℕ) (r : Row) : Type 0 where
+pub record IsShown (ops nums : List ℕ) (r : Option MonNode) : Type 0 where
   pub cell : Cell
   pub shows : Shows ops nums r cell
 
-pub record SameRow (ops nums : List ℕ) (x y : Row) (r : Bool) : Type 0 where
+pub record SameRow (ops nums : List ℕ) (x y : Option MonNode) (r : Bool) : Type 0 where
   pub is : (c d : Cell) → Shows ops nums x c → Shows ops nums y d → r ≡ alike_cell c d
 
 -- a part that holds a compiled rule

@@ -18,8 +18,7 @@ use Rattle.alike.specs.Alike.{alike_signal}
 use Rattle.alike.specs.declared.text.Sign.{Sign as Read}
 use Rattle.alike.specs.declared.text.Sign.TheVariants.{Atom as AtomOf, Word}
 use Rattle.alike.specs.declared.text.Cursor.{Cursor}
-use Rattle.alike.specs.declared.text.Next.{Next}
-use Rattle.alike.specs.declared.text.Next.TheVariants.{Here, End}
+use Rattle.std.specs.Prelude.{Option, Some, None}
 
 -- an atom by its operation and number
 abbrev pub atom_of : ℕ → ℕ → Atom
@@ -51,9 +50,9 @@ unfoldable pub rest : List ℕ → List ℕ → Cursor → ℕ → List Sign
 rest ops nums c end = owed c.owes (signs_from ops nums c.at (end - c.at))
 
 -- the next sign, with what is left behind it
-abbrev pub taken : List ℕ → List ℕ → ℕ → Next → List Sign
-taken ops nums end (Here s d) = sign_of s ∷ rest ops nums d end
-taken ops nums end End = []
+abbrev pub taken : List ℕ → List ℕ → ℕ → Option (Read × Cursor) → List Sign
+taken ops nums end (Some x) = sign_of x.0 ∷ rest ops nums x.1 end
+taken ops nums end None = []
 
 -- ---- two signals
 -- the text of the pure formula f stands at p

@@ -181,7 +181,7 @@ inked_from bytes done (b ∷ rest) h =
     ∙ ap (λ (x : List Bool). sets bytes 0 (packed x)) (append_assoc done (b ∷ []) rest)
 
 pub inked : (bytes : List ℕ) (bs : List Bool) → length bs ≤ 8 * length bytes → ink_bits bytes 0 bs ≡ sets bytes 0 (packed bs)
-unfolding packed listed sets
+unfolding packed listed
 inked bytes bs h = inked_from bytes [] bs (omega arith)
 
 -- ---- bytes, their bits, and bytes again

@@ -27,11 +27,7 @@ pub fn put_bit(bytes: &mut [u8], k: usize, b: bool)
     let i = k / 8;
     let value = power(k);
     let below = bytes[i] % value;
-    if b {
-        bytes[i] = below + value;
-        return;
-    }
-    bytes[i] = below;
+    bytes[i] = if b { below + value } else { below };
 }
 
 // Writes the w lowest bits of n from bit `at` on, lowest first.
@@ -40,11 +36,9 @@ pub fn put_number(bytes: &mut [u8], at: usize, w: u64, n: u64)
     ensures { bytes.new ≡ ink_bits bytes.old at (digits w n) }
 {
     let mut rest = n;
-    let mut i: u64 = 0;
-    while i < w {
-        put_bit(bytes, at + i as usize, rest % 2 == 1);
-        rest = rest / 2;
-        i += 1;
+    for i in 0..w as usize {
+        put_bit(bytes, at + i, rest % 2 == 1);
+        rest /= 2;
     }
 }
 
@@ -53,15 +47,9 @@ pub fn number_at(bytes: &[u8], at: usize, w: u64) -> u64
     requires { (Room bytes.now at w) × (w ≤ 64) }
     ensures { result ≡ number (spelled (bit_in bytes.now) at w) }
 {
-    let mut n: u64 = 0;
-    let mut i: u64 = w;
-    while 0 < i {
-        i -= 1;
-        if bit_at(bytes, at + i as usize) {
-            n = 2 * n + 1;
-        } else {
-            n = 2 * n;
-        }
+    let mut n = 0;
+    for i in (0..w as usize).rev() {
+        n = 2 * n + u64::from(bit_at(bytes, at + i));
     }
     n
 }
@@ -71,12 +59,10 @@ pub fn is_blank(bytes: &[u8], from: usize, to: usize) -> bool
     requires { (from ≤ to) × (to ≤ 8 * length bytes.now) }
     ensures { result ≡ blank (bit_in bytes.now) from (to - from) }
 {
-    let mut k = from;
-    while k < to {
+    for k in from..to {
         if bit_at(bytes, k) {
             return false;
         }
-        k += 1;
     }
     true
 }

@@ -5,7 +5,7 @@ use mathlib.Core.List.{List, [], ◌∷◌}
 use mathlib.Core.Option.{Option, none, some}
 use Prim.Native.Nat.{ℕ, zero, suc, ◌+◌, ◌-◌, ◌^◌, ◌≤◌, ◌<◌}
 use native.Mathlib.Omega.{arith}
-use borrow.Author.Tests.{le-leb, lt-leb, eq-eqb, ne_eqb}
+use borrow.Author.Tests.{le-leb, lt-leb}
 use mir.Syntax.{w64}
 use mir.Val.{Fits}
 use lib.Dec.{eqb}
@@ -15,15 +15,17 @@ use Rattle.terms.specs.Choice.{pick}
 use Rattle.line.specs.Text.{lines, parts, first_at, Found}
 use Rattle.line.specs.Line.{Line, bad, wrong, right, rule, node, step, states, slot, parse}
 use Rattle.line.specs.Means.{means}
-use Rattle.line.specs.declared.line.Line as code
+use Rattle.line.specs.Means.{Answer}
 use Rattle.line.proofs.Parts.{lines_next}
-use Rattle.book.specs.Book.{Book, empty, Fault, fault, add, add_line, Outcome, refusal, book_result, unless, read_on, ended, read}
+use Rattle.book.specs.Book.{Book, empty, fault, add, add_line, Outcome, refusal, book_result, unless, read_on, ended, read}
 use Rattle.book.specs.Checked.{result_of, Lined, Small, HoldsBook, Agrees, TakesLine}
 use Rattle.book.specs.declared.state.State.{State}
-use Rattle.book.specs.declared.state.Taken.{Taken}
-use Rattle.book.specs.declared.state.Taken.TheVariants.{Next, Faulty}
-use Rattle.book.specs.declared.check.Checked.{Checked}
-use Rattle.book.specs.declared.check.Checked.TheVariants.{Good, Refused}
+use Rattle.std.specs.Prelude.{Result, Ok, Err}
+use Rattle.result.specs.Refusal.{number_of}
+use Rattle.result.specs.declared.Refusal.{Refusal}
+use Rattle.result.specs.declared.Refusal.TheVariants as why
+use Rattle.book.specs.declared.check.Held.{Held}
+use Rattle.book.specs.declared.check.Refused.{Refused}
 use Rattle.book.proofs.States.{inside, outside}
 
 -- ---- a text that ends in LF: so does what stands from any place on, and where something stands an LF stands too
@@ -92,16 +94,19 @@ head_grows n b (right (step s w)) = omega arith
 head_grows n b (right (states c)) = omega arith
 head_grows n b (right (slot x w)) = omega arith
 
-next_inj : {s s' : State} → Next s ≡ Next s' → s ≡ s'
+next_inj : {s s' : State} → ◌≡◌ {A = Result State Refusal} (Ok s) (Ok s') → s ≡ s'
 next_inj e = cc
 
-faulty_inj : {k k' : ℕ} → Faulty k ≡ Faulty k' → k ≡ k'
+faulty_inj : {k k' : Refusal} → ◌≡◌ {A = Result State Refusal} (Err k) (Err k') → k ≡ k'
 faulty_inj e = cc
 
-next_faulty : {s : State} {k : ℕ} {B : Type 0} → Next s ≡ Faulty k → B
+next_faulty : {s : State} {k : Refusal} {B : Type 0} → ◌≡◌ {A = Result State Refusal} (Ok s) (Err k) → B
 next_faulty e = let z : ◌≡◌ {A = ℕ} 0 1 = cc in absurd (omega arith)
 
-module _ (text : List ℕ) (s : State) (at line n : ℕ) (rest first : List ℕ) (l : code.Line) (r : Taken)
+abbrev refused_at : Refusal → ℕ → Result Held Refused
+refused_at k n = Err (record { refusal = k; line = n })
+
+module _ (text : List ℕ) (s : State) (at line n : ℕ) (rest first : List ℕ) (l : Answer) (r : Result State Refusal)
     (v : Run text s at line) (h : at < length text) (e : rest ≡ drop at text) (f : Found 10 rest n)
     (e' : first ≡ take n rest) (m : means first l ≡ parse first) (t : TakesLine s l (n + 1) r) where
   -- the book with the line added, and what the lines behind it make of that
@@ -117,27 +122,27 @@ module _ (text : List ℕ) (s : State) (at line n : ℕ) (rest first : List ℕ)
   on : read_on empty 0 (lines text) ≡ unless (fault v.book (parse first)) line then
   on = v.same ∙ read_line v.book line text rest first at n v.lined.ends h e f e'
 
-  pub turn_fault : (k : ℕ) → r ≡ Faulty k → result_of (Refused k (line + 1)) ≡ book_result (read_on empty 0 (lines text))
+  pub turn_fault : (k : Refusal) → r ≡ Err k → result_of (refused_at k (line + 1)) ≡ book_result (read_on empty 0 (lines text))
   turn_fault k q = sym (ap book_result on ∙ go (fault v.book (parse first)) agrees)
     where
-      go : (o : Option Fault) → Agrees (n + 1) v.book (parse first) o r → book_result (unless o line then) ≡ refusal k (line + 1)
+      go : (o : Option Refusal) → Agrees (n + 1) v.book (parse first) o r → book_result (unless o line then) ≡ refusal (number_of k) (line + 1)
       go none a = next_faulty (sym a.1 ∙ q)
-      go (some x) a = ap (λ (i : ℕ). refusal i (line + 1)) (faulty_inj (sym a ∙ q))
+      go (some x) a = ap (λ (i : Refusal). refusal (number_of i) (line + 1)) (faulty_inj (sym a ∙ q))
 
   rest_short : n ≤ length text - at
   rest_short = subst (λ (i : ℕ). n ≤ i) (ap length e ∙ length-drop at text) f.inside
 
-  pub turn_next : (s' : State) → r ≡ Next s' → Run text s' (at + (n + 1)) (line + 1)
+  pub turn_next : (s' : State) → r ≡ Ok s' → Run text s' (at + (n + 1)) (line + 1)
   turn_next s' q = go (fault v.book (parse first)) refl agrees
     where
-      go : (o : Option Fault) → fault v.book (parse first) ≡ o → Agrees (n + 1) v.book (parse first) o r → Run text s' (at + (n + 1)) (line + 1)
+      go : (o : Option Refusal) → fault v.book (parse first) ≡ o → Agrees (n + 1) v.book (parse first) o r → Run text s' (at + (n + 1)) (line + 1)
       go none p a =
           let u : a.0 ≡ s' = next_inj (sym a.1 ∙ q) in
           let hd : s'.head ≡ next.head = subst (λ (x : State). x.head ≡ next.head) u a.2.head in
           record {
             book = next;
             holds = subst (HoldsBook next) u a.2;
-            same = on ∙ ap (λ (x : Option Fault). unless x line then) p;
+            same = on ∙ ap (λ (x : Option Refusal). unless x line then) p;
             lined = v.lined;
             near = omega (arith, rest_short);
             counted = omega (arith, v.counted);
@@ -146,11 +151,11 @@ module _ (text : List ℕ) (s : State) (at line n : ℕ) (rest first : List ℕ)
       go (some x) p a = next_faulty (sym q ∙ a)
 
 module _ (text : List ℕ) (s : State) (at line : ℕ) (v : Run text s at line) where
-  pub run_unfinished : length text ≤ at → 0 < s.depth → result_of (Refused 10 line) ≡ book_result (read_on empty 0 (lines text))
+  pub run_unfinished : length text ≤ at → 0 < s.depth → result_of (refused_at why.Unfinished line) ≡ book_result (read_on empty 0 (lines text))
   unfolding read_on parts
   run_unfinished h d = sym (ap book_result v.same ∙ rw (drop_of_length-le text h, inside v.book s v.holds d) refl)
 
-  pub run_done : length text ≤ at → s.depth ≤ 0 → result_of (Good s.rules s.nodes s.head s.slots s.states) ≡ book_result (read_on empty 0 (lines text))
+  pub run_done : length text ≤ at → s.depth ≤ 0 → result_of (Ok (record { rules = s.rules; nodes = s.nodes; head = s.head; slots = s.slots; states = s.states })) ≡ book_result (read_on empty 0 (lines text))
   unfolding read_on parts
   run_done h d = sym (ap book_result v.same ∙ rw (drop_of_length-le text h, outside v.book s v.holds d, v.holds.rules, v.holds.nodes, v.holds.head, v.holds.slots, v.holds.states) refl)
 
@@ -180,38 +185,32 @@ module _ (text : List ℕ) (s : State) (at line : ℕ) (v : Run text s at line) 
     run_falls = omega (arith, found_short)
 
 -- ---- the end of a text
-pub ended_empty : (t : List ℕ) → length t ≡ 0 → true ≡ ended t
+pub ended_empty : (t : List ℕ) → length t < 1 → true ≡ ended t
 unfolding ended
 ended_empty [] h = refl
 ended_empty (c ∷ r) h = absurd (omega arith)
 
-last_byte : (t : List ℕ) → (length t ≡ 0 → ⊥) → ended t ≡ eqb (get_or t (length t - 1) 0) 10
+pub last_byte : (t : List ℕ) → 1 ≤ length t → eqb (get_or t (length t - 1) 0) 10 ≡ ended t
 unfolding ended
-last_byte [] h = absurd (h refl)
+last_byte [] h = absurd (omega arith)
 last_byte (c ∷ []) h = refl
 last_byte (c ∷ d ∷ r) h =
-    let z : suc (length (d ∷ r) - 1) ≡ length (c ∷ d ∷ r) - 1 = omega arith in
-    last_byte (d ∷ r) (λ (y : length (d ∷ r) ≡ 0). omega arith) ∙ ap (λ (i : ℕ). eqb (get_or (c ∷ d ∷ r) i 0) 10) z
-
-pub ended_lf : (t : List ℕ) → (length t ≡ 0 → ⊥) → get_or t (length t - 1) 0 ≡ 10 → true ≡ ended t
-ended_lf t h e = sym (last_byte t h ∙ eq-eqb _ _ e)
-
-pub unended : (t : List ℕ) → (length t ≡ 0 → ⊥) → (get_or t (length t - 1) 0 ≡ 10 → ⊥) → false ≡ ended t
-unended t h e = sym (last_byte t h ∙ ne_eqb _ _ e)
+    let z : length (c ∷ d ∷ r) - 1 ≡ suc (length (d ∷ r) - 1) = omega arith in
+    ap (λ (i : ℕ). eqb (get_or (c ∷ d ∷ r) i 0) 10) z ∙ last_byte (d ∷ r) (omega arith)
 
 -- ---- the whole
 module _ (t : List ℕ) where
-  pub check_long : 65535 < length t → result_of (Refused 3 0) ≡ book_result (read t)
+  pub check_long : 65535 < length t → result_of (refused_at why.Long 0) ≡ book_result (read t)
   unfolding read
   check_long h = rw (lt-leb (length t) 65535 h) refl
 
   pub check_lined : (e : Bool) → length t ≤ 65535 → e ≡ ended t → e ≡ true → Lined t
   check_lined e h p q = record { short = h; ends = sym p ∙ q }
 
-  pub check_ended : (e : Bool) (r : Checked) → length t ≤ 65535 → e ≡ ended t → e ≡ true → result_of r ≡ book_result (read_on empty 0 (lines t)) → result_of r ≡ book_result (read t)
+  pub check_ended : (e : Bool) (r : Result Held Refused) → length t ≤ 65535 → e ≡ ended t → e ≡ true → result_of r ≡ book_result (read_on empty 0 (lines t)) → result_of r ≡ book_result (read t)
   unfolding read
   check_ended e r h p q c = rw (le-leb (length t) 65535 h, ← p, q) c
 
-  pub check_unended : (e : Bool) → length t ≤ 65535 → e ≡ ended t → e ≡ false → result_of (Refused 4 0) ≡ book_result (read t)
+  pub check_unended : (e : Bool) → length t ≤ 65535 → e ≡ ended t → e ≡ false → result_of (refused_at why.Unended 0) ≡ book_result (read t)
   unfolding read
   check_unended e h p q = rw (le-leb (length t) 65535 h, ← p, q) refl

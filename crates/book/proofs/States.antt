@@ -3,7 +3,7 @@ use mathlib.Core.Path.{◌≡◌, refl, sym, ap, subst, ◌∙◌}
 use mathlib.Core.Bool.{Bool, true, false, ◌&&◌, not}
 use mathlib.Core.List.{List, [], ◌∷◌, ◌++◌}
 use mathlib.Core.Option.{Option, none, some}
-use Prim.Native.Nat.{ℕ, zero, suc, ◌+◌, ◌-◌, ◌^◌, ◌≤◌, ◌<◌}
+use Prim.Native.Nat.{ℕ, zero, suc, ◌+◌, ◌^◌, ◌≤◌, ◌<◌}
 use native.Mathlib.Omega.{arith}
 use native.Mathlib.Numerals.{add-one}
 use borrow.Author.Tests.{ne_eqb, lt-ltb, le-ltb, ltb-true, leb-true}
@@ -12,29 +12,30 @@ use mir.Val.{Fits}
 use lib.Dec.{eqb, ltb, leb}
 use lib.ListN.{length, take, drop, length-append}
 use Rattle.terms.specs.Limits.{book_nodes, book_rules, book_slots, deepest, rule_nodes}
-use Rattle.line.specs.Line.{Line, right, sort_of, states, flaw_number}
-use Rattle.line.specs.Means.{held, sort_in, means}
+use Rattle.std.specs.Prelude.{None, Some, Result, Ok, Err}
+use Rattle.result.specs.declared.Refusal.{Refusal}
+use Rattle.result.specs.declared.Refusal.TheVariants as why
+use Rattle.line.specs.Line.{right, sort_of, refusal_of}
+use Rattle.line.specs.Means.{Answer, held, sort_in, means}
 use Rattle.line.specs.declared.line.Sort.{Sort}
 use Rattle.line.specs.declared.line.Sort.TheVariants as sort
 use Rattle.line.specs.declared.line.Flaw.{Flaw}
-use Rattle.line.specs.declared.line.Content as code
+use Rattle.line.specs.declared.line.Fault.{Fault}
+use Rattle.line.specs.declared.line.Fault.TheVariants.{Unreadable, Field}
+use Rattle.line.specs.declared.line.Content.{Content}
 use Rattle.line.specs.declared.line.Content.TheVariants as contents
-use Rattle.line.specs.declared.line.Line as code-line
-use Rattle.line.specs.declared.line.Line.TheVariants as lines
+use Rattle.terms.specs.declared.kind.Kind.{Kind}
+use Rattle.terms.specs.Choice.{pick}
 use Rattle.line.proofs.Lines.{sort_held}
-use Rattle.book.specs.Book.{Book, empty, is_nil, whole, head_of, last_of, bump, spend, Fault, number_of, word, place, unopened, field, limit, opening, stands, opens, within, first_fault, fault, add}
-use Rattle.book.specs.Checked.{due_of, depths, Small, DueIs, HoldsBook, Inside, NodeRoom, Room, SlotRoom, StillOpening, MayStand, Opens, Within, Addable, Adds, Agrees, TakesLine, TakesContent}
+use Rattle.book.specs.Book.{Book, empty, is_nil, whole, head_of, last_of, bump, spend, opening, stands, opens, within, or_else, first_fault, fault, add}
+use Rattle.book.specs.Checked.{due_of, depths, Small, DueIs, HoldsBook, Inside, NodeRoom, Room, SlotRoom, StillOpening, MayStand, Opens, Within, misplaced, error_in, Placed, Refuses, Addable, Adds, Agrees, TakesLine, TakesContent}
 use Rattle.book.specs.declared.due.Due.{Due}
 use Rattle.book.specs.declared.state.State.{State}
-use Rattle.book.specs.declared.state.States.{States}
-use Rattle.book.specs.declared.state.States.TheVariants.{Absent, Stood}
-use Rattle.book.specs.declared.state.Taken.{Taken}
-use Rattle.book.specs.declared.state.Taken.TheVariants.{Next, Faulty}
 
 false_true : {B : Type 0} → true ≡ false → B
 false_true e = let z : ◌≡◌ {A = ℕ} 0 1 = cc in absurd (omega arith)
 
-pub starts : HoldsBook empty (record { rules = 0; nodes = 0; own = 0; depth = 0; bits = 0; stepping = false; head = 0; slots = 0; states = Absent })
+pub starts : HoldsBook empty (record { rules = 0; nodes = 0; own = 0; depth = 0; bits = 0; stepping = false; head = 0; slots = 0; states = None })
 unfolding last_of due_of
 starts = record { rules = refl; nodes = refl; own = refl; due = refl; small = record { low = omega arith; fits = omega arith }; begun = λ e. false_true e; stepping = refl; head = refl; slots = refl; states = refl }
 
@@ -140,13 +141,6 @@ module _ (s : State) where
   }
 
 module _ (s : State) (o : Sort) where
-  pub late_rule : o ≡ sort.Rule → s.stepping ≡ true → MayStand s o false
-  unfolding stands
-  late_rule e t = record {
-    is = λ b h. rw (e, steps_come b s h t) (and_false (whole b));
-    inside = λ z. false_true (sym z);
-  }
-
   pub rule_stands : o ≡ sort.Rule → s.stepping ≡ false → MayStand s o (eqb s.depth 0)
   unfolding stands
   rule_stands e t = record {
@@ -164,56 +158,6 @@ module _ (s : State) (o : Sort) where
   pub step_stands : o ≡ sort.Step → MayStand s o (eqb s.depth 0)
   unfolding stands
   step_stands e = record { is = λ b h. rw e (whole_is b s h); inside = λ _. rw e tt }
-
-  pub states_stands : (r : Bool) → o ≡ sort.States → StillOpening s r → MayStand s o r
-  unfolding stands
-  states_stands r e p = record { is = λ b h. rw e (p.is b h); inside = λ _. rw e tt }
-
-  pub slot_stands : (r : Bool) → o ≡ sort.Slot → StillOpening s r → MayStand s o r
-  unfolding stands
-  slot_stands r e p = record { is = λ b h. rw e (p.is b h); inside = λ _. rw e tt }
-
-  pub rule_opens : o ≡ sort.Rule → Opens s o true
-  unfolding opens
-  rule_opens e = record { is = λ b h. rw e refl; room = λ _. rw e tt }
-
-  pub node_opens : o ≡ sort.Node → Opens s o true
-  unfolding opens
-  node_opens e = record { is = λ b h. rw e refl; room = λ _. rw e tt }
-
-  pub step_opens : o ≡ sort.Step → Opens s o true
-  unfolding opens
-  step_opens e = record { is = λ b h. rw e refl; room = λ _. rw e tt }
-
-  pub states_opens : o ≡ sort.States → Opens s o (eqb s.head 0)
-  unfolding opens
-  states_opens e = record { is = λ b h. rw e (ap (λ (n : ℕ). eqb n 0) h.head); room = λ _. rw e tt }
-
-  pub slot_opens : o ≡ sort.Slot → Opens s o (ltb s.slots book_slots)
-  unfolding opens
-  slot_opens e = record {
-    is = λ b h. rw e (ap (λ (n : ℕ). ltb n book_slots) h.slots);
-    room = λ z. rw e (ltb-true s.slots book_slots z);
-  }
-
-  pub states_within : o ≡ sort.States → Within s o true
-  unfolding within
-  states_within e = record { is = λ b h. rw e refl; room = λ _. rw e tt }
-
-  pub slot_within : o ≡ sort.Slot → Within s o true
-  unfolding within
-  slot_within e = record { is = λ b h. rw e refl; room = λ _. rw e tt }
-
-  pub rule_within : o ≡ sort.Rule → Within s o (ltb s.rules book_rules)
-  unfolding within
-  rule_within e = record {
-    is = λ b h. rw e (ap (λ (n : ℕ). ltb n book_rules) h.rules);
-    room = λ z. rw e (ltb-true s.rules book_rules z);
-  }
-
-  pub step_within : o ≡ sort.Step → Within s o true
-  unfolding within
-  step_within e = record { is = λ b h. rw e refl; room = λ _. rw e tt }
 
   module _ (e : o ≡ sort.Node) where
     node_within : (r : Bool)
@@ -236,10 +180,10 @@ module _ (s : State) (o : Sort) where
           (λ z. record { own = m; nodes = k; depth = leb-true s.depth deepest z })
 
 -- ---- what a line's content adds
-module _ (s : State) (c : code.Content) (n : ℕ) (a : Addable s c n) where
-  module _ (start len kind : ℕ) (e : c ≡ contents.Rule start len kind) where
+module _ (s : State) (c : Content) (n : ℕ) (a : Addable s c n) where
+  module _ (start len : ℕ) (kind : Kind) (e : c ≡ contents.Rule start len kind) where
     pub rule_fits : Fits w64 (s.rules + 1)
-    rule_fits = let few : s.rules < book_rules = subst (λ (x : code.Content). Room s (sort_in x)) e a.room in record { fits = omega arith }
+    rule_fits = let few : s.rules < book_rules = subst (λ (x : Content). Room s (sort_in x)) e a.room in record { fits = omega arith }
 
     pub adds_rule : Adds s c n (record { rules = s.rules + 1; nodes = s.nodes; own = 0; depth = 1; bits = 0; stepping = s.stepping; head = s.head + n; slots = s.slots; states = s.states })
     unfolding add due_of depths
@@ -260,10 +204,10 @@ module _ (s : State) (c : code.Content) (n : ℕ) (a : Addable s c n) where
 
   module _ (op num : ℕ) (e : c ≡ contents.Node op num) where
     pub node_in : 1 ≤ s.depth
-    node_in = subst (λ (x : code.Content). Inside s (sort_in x)) e a.inside
+    node_in = subst (λ (x : Content). Inside s (sort_in x)) e a.inside
 
     node_room : NodeRoom s
-    node_room = subst (λ (x : code.Content). Room s (sort_in x)) e a.room
+    node_room = subst (λ (x : Content). Room s (sort_in x)) e a.room
 
     pub nodes_fit : Fits w64 (s.nodes + 1)
     nodes_fit = record { fits = omega (arith, node_room.nodes) }
@@ -311,7 +255,7 @@ module _ (s : State) (c : code.Content) (n : ℕ) (a : Addable s c n) where
   }
 
   pub adds_states : (m : ℕ) → c ≡ contents.States m
-      → Adds s c n (record { rules = s.rules; nodes = s.nodes; own = s.own; depth = s.depth; bits = s.bits; stepping = s.stepping; head = s.head + n; slots = s.slots; states = Stood m })
+      → Adds s c n (record { rules = s.rules; nodes = s.nodes; own = s.own; depth = s.depth; bits = s.bits; stepping = s.stepping; head = s.head + n; slots = s.slots; states = Some m })
   unfolding add
   adds_states m e = record {
     is = λ t b h. rw e (record {
@@ -330,7 +274,7 @@ module _ (s : State) (c : code.Content) (n : ℕ) (a : Addable s c n) where
 
   module _ (start len width : ℕ) (e : c ≡ contents.Slot start len width) where
     pub slot_fits : Fits w64 (s.slots + 1)
-    slot_fits = let few : s.slots < book_slots = subst (λ (x : code.Content). SlotRoom s (sort_in x)) e a.slots in record { fits = omega arith }
+    slot_fits = let few : s.slots < book_slots = subst (λ (x : Content). SlotRoom s (sort_in x)) e a.slots in record { fits = omega arith }
 
     pub adds_slot : Adds s c n (record { rules = s.rules; nodes = s.nodes; own = s.own; depth = s.depth; bits = s.bits; stepping = s.stepping; head = s.head + n; slots = s.slots + 1; states = s.states })
     unfolding add
@@ -349,65 +293,106 @@ module _ (s : State) (c : code.Content) (n : ℕ) (a : Addable s c n) where
       });
     }
 
+-- ---- the tests by a line's sort alone, one after the other
+none_some : {B : Type 0} {e : Refusal} → none ≡ some e → B
+none_some e = let z : ◌≡◌ {A = ℕ} 0 1 = cc in absurd (omega arith)
+
+misplaced_some : (t u : Bool) (r : Option Refusal) (e : Refusal) → or_else (pick t none (some why.Place)) (pick u none (some why.Unopened)) ≡ some e
+    → or_else (pick t none (some why.Place)) (or_else (pick u none (some why.Unopened)) r) ≡ some e
+misplaced_some true true r e p = none_some p
+misplaced_some true false r e p = p
+misplaced_some false u r e p = p
+
+misplaced_none : (t u : Bool) (r : Option Refusal) → or_else (pick t none (some why.Place)) (pick u none (some why.Unopened)) ≡ none
+    → or_else (pick t none (some why.Place)) (or_else (pick u none (some why.Unopened)) r) ≡ r
+misplaced_none true true r p = refl
+misplaced_none true false r p = none_some (sym p)
+misplaced_none false u r p = none_some (sym p)
+
+module _ (s : State) (o : Sort) (r : Bool) (p : MayStand s o r) where
+  pub placed_nowhere : r ≡ false → Placed s o (Err why.Place)
+  unfolding misplaced
+  placed_nowhere q = record {
+    is = λ b h. rw (← p.is b h, q) refl;
+    inside = λ z. none_some (sym z);
+    room = λ z. none_some (sym z);
+  }
+
+  module _ (q : r ≡ true) (v : Bool) (w : Opens s o v) where
+    pub placed_unopened : v ≡ false → Placed s o (Err why.Unopened)
+    unfolding misplaced
+    placed_unopened z = record {
+      is = λ b h. rw (← p.is b h, q, ← w.is b h, z) refl;
+      inside = λ y. none_some (sym y);
+      room = λ y. none_some (sym y);
+    }
+
+    pub placed_well : v ≡ true → Placed s o (Ok tt)
+    unfolding misplaced
+    placed_well z = record {
+      is = λ b h. rw (← p.is b h, q, ← w.is b h, z) refl;
+      inside = λ _. p.inside q;
+      room = λ _. w.room z;
+    }
+
+-- ---- a line with a fault
+pub refuse_word : (s : State) (x : Fault) → x ≡ Unreadable → Refuses s x why.Word
+unfolding means fault first_fault
+refuse_word s x e = record { is = λ t b h. rw e refl }
+
+module _ (s : State) (x : Fault) (o : Sort) (f : Flaw) (r : Result Unit Refusal) (e : x ≡ Field o f) (p : Placed s o r) where
+  pub refuse_place : (k : Refusal) → r ≡ Err k → Refuses s x k
+  unfolding means fault first_fault misplaced
+  refuse_place k q = record { is = λ t b h. rw e (misplaced_some (stands b o) (opens b o) (some (refusal_of f)) k (sym (p.is b h) ∙ ap error_in q)) }
+
+  pub refuse_field : (u : Unit) (k : Refusal) → r ≡ Ok u → k ≡ refusal_of f → Refuses s x k
+  unfolding means fault first_fault misplaced
+  refuse_field u k q j = record {
+    is = λ t b h. rw e (misplaced_none (stands b o) (opens b o) (some (refusal_of f)) (sym (p.is b h) ∙ ap error_in q) ∙ ap some (sym j));
+  }
+
 -- ---- a line
-module _ (s : State) (l : code-line.Line) (n : ℕ) where
+module _ (s : State) (l : Answer) (n : ℕ) where
   -- the fault of a line that has one, whatever its text
-  faulty : (f : Fault) (k : ℕ) → k ≡ number_of f → ((t : List ℕ) (b : Book) → HoldsBook b s → fault b (means t l) ≡ some f) → TakesLine s l n (Faulty k)
-  faulty f k q e = record { is = λ t b h. subst (λ (o : Option Fault). Agrees n b (means t l) o (Faulty k)) (sym (e t b h)) (ap Faulty q) }
+  faulty : (f : Refusal) → ((t : List ℕ) (b : Book) → HoldsBook b s → fault b (means t l) ≡ some f) → TakesLine s l n (Err f)
+  faulty f e = record { is = λ t b h. subst (λ (o : Option Refusal). Agrees n b (means t l) o (Err f)) (sym (e t b h)) refl }
 
-  pub line_bad : l ≡ lines.Bad → TakesLine s l n (Faulty 5)
-  unfolding means fault first_fault
-  line_bad e = faulty word 5 refl (λ t b h. rw e refl)
+  pub wrong_taken : (x : Fault) (f : Refusal) → l ≡ Err x → Refuses s x f → TakesLine s l n (Err f)
+  wrong_taken x f e p = faulty f (λ t b h. ap (λ (y : Answer). fault b (means t y)) e ∙ p.is t b h)
 
-  module _ (o : Sort) (f : Flaw) (r : Bool) (e : l ≡ lines.Wrong o f) (p : MayStand s o r) where
-    pub wrong_place : r ≡ false → TakesLine s l n (Faulty 6)
-    unfolding means fault first_fault
-    wrong_place q = faulty place 6 refl (λ t b h. rw (e, ← p.is b h, q) refl)
+  pub right_taken : (c : Content) (r : Result State Refusal) → l ≡ Ok c → TakesContent s c n r → TakesLine s l n r
+  right_taken c r e p = subst (λ (x : Answer). TakesLine s x n r) (sym e) p
 
-    module _ (q : r ≡ true) (v : Bool) (w : Opens s o v) where
-      pub wrong_unopened : v ≡ false → TakesLine s l n (Faulty 25)
-      unfolding means fault first_fault
-      wrong_unopened z = faulty unopened 25 refl (λ t b h. rw (e, ← p.is b h, q, ← w.is b h, z) refl)
+module _ (s : State) (c : Content) (n : ℕ) (o : Sort) (r : Result Unit Refusal) (i : o ≡ sort_in c) (p : Placed s o r) where
+  sort_is : (t : List ℕ) → sort_of (held t c) ≡ o
+  sort_is t = sort_held t c ∙ sym i
 
-      pub wrong_field : (k : ℕ) → v ≡ true → k ≡ flaw_number f → TakesLine s l n (Faulty k)
-      unfolding means fault first_fault
-      wrong_field k z j = faulty (field f) k j (λ t b h. rw (e, ← p.is b h, q, ← w.is b h, z) refl)
+  pub right_place : (k : Refusal) → r ≡ Err k → TakesContent s c n (Err k)
+  unfolding means fault first_fault misplaced
+  right_place k q = faulty s (Ok c) n k (λ t b h. rw (sort_is t) (misplaced_some (stands b o) (opens b o) (or_else (pick (within b o) none (some why.Limit)) none) k (sym (p.is b h) ∙ ap error_in q)))
 
-  pub right_taken : (c : code.Content) (r : Taken) → l ≡ lines.Right c → TakesContent s c n r → TakesLine s l n r
-  right_taken c r e p = subst (λ (x : code-line.Line). TakesLine s x n r) (sym e) p
+  module _ (u : Unit) (q : r ≡ Ok u) (v : Bool) (w : Within s o v) where
+    only_limit : (t : List ℕ) (b : Book) → HoldsBook b s → fault b (right (held t c)) ≡ or_else (pick v none (some why.Limit)) none
+    unfolding fault first_fault misplaced
+    only_limit t b h = rw (sort_is t, w.is b h) (misplaced_none (stands b o) (opens b o) _ (sym (p.is b h) ∙ ap error_in q))
 
-module _ (s : State) (c : code.Content) (n : ℕ) where
-  module _ (o : Sort) (r : Bool) (i : o ≡ sort_in c) (p : MayStand s o r) where
-    sort_is : (t : List ℕ) → sort_of (held t c) ≡ o
-    sort_is t = sort_held t c ∙ sym i
+    pub right_limit : v ≡ false → TakesContent s c n (Err why.Limit)
+    unfolding means
+    right_limit z = faulty s (Ok c) n why.Limit (λ t b h. only_limit t b h ∙ rw z refl)
 
-    pub right_place : r ≡ false → TakesContent s c n (Faulty 6)
-    unfolding means fault first_fault
-    right_place q = faulty s (lines.Right c) n place 6 refl (λ t b h. rw (sort_is t, ← p.is b h, q) refl)
+    pub right_addable : v ≡ true → (s.head + n < 2 ^ 63) × Small s.depth s.bits → Addable s c n
+    right_addable z k = record {
+      short = k.0;
+      small = k.1;
+      inside = subst (Inside s) i (p.inside (ap error_in q));
+      room = subst (Room s) i (w.room z);
+      slots = subst (SlotRoom s) i (p.room (ap error_in q));
+    }
 
-    module _ (q : r ≡ true) (u : Bool) (g : Opens s o u) where
-      pub right_unopened : u ≡ false → TakesContent s c n (Faulty 25)
-      unfolding means fault first_fault
-      right_unopened z = faulty s (lines.Right c) n unopened 25 refl (λ t b h. rw (sort_is t, ← p.is b h, q, ← g.is b h, z) refl)
-
-      module _ (y : u ≡ true) (v : Bool) (w : Within s o v) where
-        pub right_limit : v ≡ false → TakesContent s c n (Faulty 9)
-        unfolding means fault first_fault
-        right_limit z = faulty s (lines.Right c) n limit 9 refl (λ t b h. rw (sort_is t, ← p.is b h, q, ← g.is b h, y, ← w.is b h, z) refl)
-
-        pub right_addable : v ≡ true → (s.head + n < 2 ^ 63) × Small s.depth s.bits → Addable s c n
-        right_addable z k = record {
-          short = k.0;
-          small = k.1;
-          inside = subst (Inside s) i (p.inside q);
-          room = subst (Room s) i (w.room z);
-          slots = subst (SlotRoom s) i (g.room y);
-        }
-
-        pub right_adds : (s' : State) → v ≡ true → Adds s c n s' → TakesContent s c n (Next s')
-        unfolding means fault first_fault
-        right_adds s' z a = record {
-          is = λ t b h.
-              let none_is : fault b (right (held t c)) ≡ none = rw (sort_is t, ← p.is b h, q, ← g.is b h, y, ← w.is b h, z) refl in
-              (subst (λ (x : Option Fault). Agrees n b (right (held t c)) x (Next s')) (sym none_is) (s', refl, a.is t b h));
-        }
+    pub right_adds : (s' : State) → v ≡ true → Adds s c n s' → TakesContent s c n (Ok s')
+    unfolding means
+    right_adds s' z a = record {
+      is = λ t b h.
+          let none_is : fault b (right (held t c)) ≡ none = only_limit t b h ∙ rw z refl in
+          (subst (λ (x : Option Refusal). Agrees n b (right (held t c)) x (Ok s')) (sym none_is) (s', refl, a.is t b h));
+    }

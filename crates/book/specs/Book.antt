@@ -12,12 +12,13 @@ use Rattle.terms.specs.Limits.{book_bytes, book_nodes, book_rules, book_slots, d
 use Rattle.terms.specs.Ops.{not_op, and_op}
 use Rattle.terms.specs.Choice.{pick}
 use Rattle.line.specs.Text.{lines}
-use Rattle.line.specs.Line.{Content, rule, node, step, states, slot, sort_of, Line, bad, wrong, right, flaw_number, parse}
+use Rattle.std.specs.Prelude.{Option as Opt, Some, None}
+use Rattle.line.specs.Line.{Content, rule, node, step, states, slot, sort_of, Line, bad, wrong, right, refusal_of, parse}
 use Rattle.line.specs.declared.line.Sort.{Sort}
 use Rattle.line.specs.declared.line.Sort.TheVariants as sort
-use Rattle.line.specs.declared.line.Flaw.{Flaw}
-use Rattle.book.specs.declared.state.States.{States}
-use Rattle.book.specs.declared.state.States.TheVariants.{Absent, Stood}
+use Rattle.result.specs.Refusal.{number_of}
+use Rattle.result.specs.declared.Refusal.{Refusal}
+use Rattle.result.specs.declared.Refusal.TheVariants as why
 
 -- a step line: its number and its truths
 pub record StepLine : Type 0 where
@@ -39,7 +40,7 @@ pub record Book : Type 0 where
   pub due : List ℕ
   -- the bytes of the lines before the step lines
   pub head : ℕ
-  pub states : States
+  pub states : Opt ℕ
   pub names : List (List ℕ)
   pub widths : List ℕ
 
@@ -54,7 +55,7 @@ empty = record {
   steps = [];
   due = [];
   head = 0;
-  states = Absent;
+  states = None;
   names = [];
   widths = [];
 }
@@ -64,9 +65,9 @@ is_nil [] = true
 is_nil (a ∷ l) = false
 
 -- how many states there are: a `states` line left out counts 0
-abbrev pub count_in : States → ℕ
-count_in Absent = 0
-count_in (Stood c) = c
+abbrev pub count_in : Opt ℕ → ℕ
+count_in None = 0
+count_in (Some c) = c
 
 -- no rule is unfinished
 abbrev pub whole : Book → Bool
@@ -112,51 +113,38 @@ within b sort.Step = true
 within b sort.States = true
 within b sort.Slot = true
 
-pub data Fault : Type 0 where
-  word : Fault  -- the word is unknown or its field count wrong
-  place : Fault  -- the line cannot stand here
-  unopened : Fault  -- a `states` line that is not the first line, or a slot too many
-  field : Flaw → Fault  -- a label, a kind or a number is wrong
-  limit : Fault  -- a limit on rules, nodes or depth is passed
-
--- document 01's numbers, and document 02's
-abbrev pub number_of : Fault → ℕ
-number_of word = 5
-number_of place = 6
-number_of unopened = 25
-number_of (field f) = flaw_number f
-number_of limit = 9
-
+-- ---- a line's fault: Word, its word is unknown or its field count wrong; Place, it cannot stand here; Unopened, a `states` line that is not the
+-- first line, or a slot too many; Label or Number, one of its fields is wrong; Limit, a limit on rules, nodes or depth is passed
 -- a test finds its fault in a line, or none
-abbrev pub no_word : Book → Line → Option Fault
-no_word b bad = some word
+abbrev pub no_word : Book → Line → Option Refusal
+no_word b bad = some why.Word
 no_word b (wrong s f) = none
 no_word b (right c) = none
 
-abbrev pub wrong_field : Book → Line → Option Fault
+abbrev pub wrong_field : Book → Line → Option Refusal
 wrong_field b bad = none
-wrong_field b (wrong s f) = some (field f)
+wrong_field b (wrong s f) = some (refusal_of f)
 wrong_field b (right c) = none
 
 -- .. by the line's sort alone
-abbrev pub by_sort : (Book → Sort → Bool) → Fault → Book → Line → Option Fault
+abbrev pub by_sort : (Book → Sort → Bool) → Refusal → Book → Line → Option Refusal
 by_sort test f b bad = none
 by_sort test f b (wrong s g) = pick (test b s) none (some f)
 by_sort test f b (right c) = pick (test b (sort_of c)) none (some f)
 
 -- the order in which a line is tested
-abbrev pub order : List (Book → Line → Option Fault)
-order = no_word ∷ by_sort stands place ∷ by_sort opens unopened ∷ wrong_field ∷ by_sort within limit ∷ []
+abbrev pub order : List (Book → Line → Option Refusal)
+order = no_word ∷ by_sort stands why.Place ∷ by_sort opens why.Unopened ∷ wrong_field ∷ by_sort within why.Limit ∷ []
 
-abbrev pub or_else : Option Fault → Option Fault → Option Fault
+abbrev pub or_else : Option Refusal → Option Refusal → Option Refusal
 or_else none o = o
 or_else (some f) o = some f
 
-unfoldable pub first_fault : List (Book → Line → Option Fault) → Book → Line → Option Fault
+unfoldable pub first_fault : List (Book → Line → Option Refusal) → Book → Line → Option Refusal
 first_fault [] b l = none
 first_fault (t ∷ ts) b l = or_else (t b l) (first_fault ts b l)
 
-unfoldable pub fault : Book → Line → Option Fault
+unfoldable pub fault : Book → Line → Option Refusal
 fault b l = first_fault order b l
 
 -- ---- what a line adds
@@ -225,7 +213,7 @@ add n b (states c) = record {
   steps = b.steps;
   due = b.due;
   head = b.head + n;
-  states = Stood c;
+  states = Some c;
   names = b.names;
   widths = b.widths;
 }
@@ -258,7 +246,7 @@ pub data Outcome : Type 0 where
 -- document 01's result: how many rules and nodes the book holds and the byte at which its step lines begin, how many slots, and its states; or the
 -- number and the line
 pub data BookResult : Type 0 where
-  contents : ℕ → ℕ → ℕ → ℕ → States → BookResult
+  contents : ℕ → ℕ → ℕ → ℕ → Opt ℕ → BookResult
   refusal : ℕ → ℕ → BookResult
 
 abbrev pub book_result : Outcome → BookResult
@@ -266,7 +254,7 @@ book_result (accepted b) = contents (length b.labels) (length b.ops) b.head (len
 book_result (refused n k) = refusal n k
 
 -- a fault in the line behind k others refuses the book, whatever follows
-abbrev pub unless : Option Fault → ℕ → Outcome → Outcome
+abbrev pub unless : Option Refusal → ℕ → Outcome → Outcome
 unless none k o = o
 unless (some f) k o = refused (number_of f) (k + 1)
 

@@ -7,19 +7,23 @@ use Rattle.line.specs.Line.{Line}
 use Rattle.line.specs.Means.{held, sort_in, means}
 use Rattle.line.specs.declared.line.Sort.{Sort}
 use Rattle.line.specs.declared.line.Sort.TheVariants as sort
-use Rattle.line.specs.declared.line as code
-use Rattle.book.specs.Book.{Book, is_nil, last_of, opening, stands, opens, within, Fault, number_of, fault, add, add_line, BookResult, contents, refusal, ended}
+use Rattle.std.specs.Prelude.{Result, Ok, Err}
+use Rattle.line.specs.Means.{Answer}
+use Rattle.line.specs.declared.line.Content.{Content}
+use Rattle.line.specs.declared.line.Fault.{Fault}
+use Rattle.result.specs.Refusal.{number_of}
+use Rattle.result.specs.declared.Refusal.{Refusal}
+use Rattle.result.specs.declared.Refusal.TheVariants as why
+use Rattle.book.specs.Book.{Book, is_nil, last_of, opening, stands, opens, within, or_else, fault, add, add_line, BookResult, contents, refusal, ended}
 use Rattle.book.specs.declared.due.Due.{Due}
 use Rattle.book.specs.declared.state.State.{State}
-use Rattle.book.specs.declared.state.Taken.{Taken}
-use Rattle.book.specs.declared.state.Taken.TheVariants.{Next, Faulty}
-use Rattle.book.specs.declared.check.Checked.{Checked}
-use Rattle.book.specs.declared.check.Checked.TheVariants.{Good, Refused}
+use Rattle.book.specs.declared.check.Held.{Held}
+use Rattle.book.specs.declared.check.Refused.{Refused}
 
 -- document 01's result for each case of the answer
-abbrev pub result_of : Checked → BookResult
-result_of (Good r n h m c) = contents r n h m c
-result_of (Refused n k) = refusal n k
+abbrev pub result_of : Result Held Refused → BookResult
+result_of (Ok h) = contents h.rules h.nodes h.head h.slots h.states
+result_of (Err r) = refusal (number_of r.refusal) r.line
 
 -- a text that is no longer than a book and ends where a line ends
 pub record Lined (text : List ℕ) : Type 0 where
@@ -102,25 +106,42 @@ pub record Within (s : State) (o : Sort) (r : Bool) : Type 0 where
   pub is : (b : Book) → HoldsBook b s → r ≡ within b o
   pub room : r ≡ true → Room s o
 
+-- the first of the tests on a sort alone that a line fails, if there is one
+unfoldable pub misplaced : Book → Sort → Option Refusal
+misplaced b o = or_else (pick (stands b o) none (some why.Place)) (pick (opens b o) none (some why.Unopened))
+
+abbrev pub error_in : {A : Type 0} → Result A Refusal → Option Refusal
+error_in (Ok a) = none
+error_in (Err e) = some e
+
+pub record Placed (s : State) (o : Sort) (r : Result Unit Refusal) : Type 0 where
+  pub is : (b : Book) → HoldsBook b s → error_in r ≡ misplaced b o
+  pub inside : error_in r ≡ none → Inside s o
+  pub room : error_in r ≡ none → SlotRoom s o
+
+-- why a line with a fault is refused, whatever its text
+pub record Refuses (s : State) (x : Fault) (r : Refusal) : Type 0 where
+  pub is : (t : List ℕ) (b : Book) → HoldsBook b s → fault b (means t (Err x)) ≡ some r
+
 -- the state with the content of a line of n bytes added, whatever the line's text
-pub record Addable (s : State) (c : code.Content.Content) (n : ℕ) : Type 0 where
+pub record Addable (s : State) (c : Content) (n : ℕ) : Type 0 where
   pub short : s.head + n < 2 ^ 63
   pub small : Small s.depth s.bits
   pub inside : Inside s (sort_in c)
   pub room : Room s (sort_in c)
   pub slots : SlotRoom s (sort_in c)
 
-pub record Adds (s : State) (c : code.Content.Content) (n : ℕ) (r : State) : Type 0 where
+pub record Adds (s : State) (c : Content) (n : ℕ) (r : State) : Type 0 where
   pub is : (t : List ℕ) (b : Book) → HoldsBook b s → HoldsBook (add n b (held t c)) r
 
--- what taking a line of n bytes answers: the fault's number, or the state with the line added
-abbrev pub Agrees : ℕ → Book → Line → Option Fault → Taken → Type 0
-Agrees n b l none r = (s : State) × (r ≡ Next s) × HoldsBook (add_line n b l) s
-Agrees n b l (some f) r = r ≡ Faulty (number_of f)
+-- what taking a line of n bytes answers: the fault, or the state with the line added
+abbrev pub Agrees : ℕ → Book → Line → Option Refusal → Result State Refusal → Type 0
+Agrees n b l none r = (s : State) × (r ≡ Ok s) × HoldsBook (add_line n b l) s
+Agrees n b l (some f) r = r ≡ Err f
 
-pub record TakesLine (s : State) (l : code.Line.Line) (n : ℕ) (r : Taken) : Type 0 where
+pub record TakesLine (s : State) (l : Answer) (n : ℕ) (r : Result State Refusal) : Type 0 where
   pub is : (t : List ℕ) (b : Book) → HoldsBook b s → Agrees n b (means t l) (fault b (means t l)) r
 
 -- .. of a line that is right
-abbrev pub TakesContent : State → code.Content.Content → ℕ → Taken → Type 0
-TakesContent s c n r = TakesLine s (code.Line.TheVariants.Right c) n r
+abbrev pub TakesContent : State → Content → ℕ → Result State Refusal → Type 0
+TakesContent s c n r = TakesLine s (Ok c) n r

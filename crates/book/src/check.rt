@@ -4,43 +4,51 @@ ghost use Rattle.line.specs.Text.{lines};
 ghost use Rattle.book.specs.Book.{empty, read_on, read, book_result, ended};
 ghost use Rattle.book.specs.Checked.{result_of, Lined};
 
-use crate::state::{States, Taken, start, take};
+use crate::state::start;
 use line::line::read_line;
 use line::text::{find, past, upto};
+use result::Refusal;
 use terms::limit::BOOK_BYTES;
 
-// `head` is the number of bytes before the step lines; `slots` counts the slots.
-#[derive(Clone, Copy)]
-pub enum Checked {
-    Good {
-        rules: usize,
-        nodes: usize,
-        head: usize,
-        slots: usize,
-        states: States,
-    },
-    Refused {
-        number: u8,
-        line: usize,
-    },
+// How much a book holds. `head` is the number of bytes before the step lines; `slots` counts the slots.
+#[derive(Clone, Copy, Debug, PartialEq, Eq)]
+pub struct Held {
+    pub rules: usize,
+    pub nodes: usize,
+    pub head: usize,
+    pub slots: usize,
+    pub states: Option<u64>,
+}
+
+// Why a book is refused, and at which line: 0 for the whole book.
+#[derive(Clone, Copy, Debug, PartialEq, Eq)]
+pub struct Refused {
+    pub refusal: Refusal,
+    pub line: usize,
 }
 
 // The lines one after the other.
-fn check_lines(text: &[u8]) -> Checked
+fn check_lines(text: &[u8]) -> Result<Held, Refused>
     requires { Lined text.now }
     ensures { result_of result ≡ book_result (read_on empty 0 (lines text.now)) }
 {
     let mut s = start();
     let mut at: usize = 0;
     let mut line: usize = 0;
+    // a line is as long as its text says, so the loop moves by places
     while at < text.len() {
         let rest = past(text, at);
         let n = find(rest, 10);
-        let taken = take(s, read_line(upto(rest, n)), n + 1);
+        let taken = s.take(read_line(upto(rest, n)), n + 1);
         let here = line + 1;
         match taken {
-            Taken::Faulty(number) => return Checked::Refused { number, line: here },
-            Taken::Next(next) => {
+            Err(refusal) => {
+                return Err(Refused {
+                    refusal,
+                    line: here,
+                });
+            }
+            Ok(next) => {
                 s = next;
                 at += n + 1;
                 line = here;
@@ -48,40 +56,45 @@ fn check_lines(text: &[u8]) -> Checked
         }
     }
     if 0 < s.depth {
-        return Checked::Refused { number: 10, line };
+        return Err(Refused {
+            refusal: Refusal::Unfinished,
+            line,
+        });
     }
-    let states = s.states;
-    Checked::Good {
+    Ok(Held {
         rules: s.rules,
         nodes: s.nodes,
         head: s.head,
         slots: s.slots,
-        states,
-    }
+        states: s.states,
+    })
 }
 
 // Whether a text is empty or ends in LF.
 fn is_ended(text: &[u8]) -> bool
     ensures { result ≡ ended text.now }
 {
-    if text.len() == 0 {
-        return true;
+    match text {
+        [] => true,
+        [.., last] => *last == 10,
     }
-    if text[text.len() - 1] == 10 {
-        return true;
-    }
-    false
 }
 
 // The check of a whole book.
-pub fn check(text: &[u8]) -> Checked
+pub fn check(text: &[u8]) -> Result<Held, Refused>
     ensures { result_of result ≡ book_result (read text.now) }
 {
     if BOOK_BYTES < text.len() {
-        return Checked::Refused { number: 3, line: 0 };
+        return Err(Refused {
+            refusal: Refusal::Long,
+            line: 0,
+        });
     }
     if is_ended(text) {
         return check_lines(text);
     }
-    Checked::Refused { number: 4, line: 0 }
+    Err(Refused {
+        refusal: Refusal::Unended,
+        line: 0,
+    })
 }

@@ -5,7 +5,7 @@ ghost use Rattle.book.specs.Checked.{depths, due_of, Small, DueIs};
 
 use terms::op::{AND, NOT};
 
-#[derive(Clone, Copy)]
+#[derive(Clone, Copy, Debug, PartialEq, Eq)]
 pub struct Due {
     pub depth: usize,
     pub bits: u64,

@@ -6,26 +6,25 @@ use mathlib.Core.List.{List, [], ◌∷◌}
 use mathlib.Core.Option.{Option, none, some}
 use Prim.Native.Nat.{ℕ, ◌+◌}
 use native.Mathlib.Omega.{arith}
-use lib.Dec.{eqb, leb, ltb}
+use lib.Dec.{leb, ltb}
 use lib.ListN.{length}
 use Rattle.terms.specs.Choice.{pick}
-use Rattle.terms.specs.Kinds.{kinds}
+use Rattle.terms.specs.declared.kind.Kind.{Kind}
 use Rattle.terms.specs.Limits.{signals, steps}
 use Rattle.number.specs.Number.{decimal_of, hex_of}
-use Rattle.number.specs.declared.Number.{Number}
-use Rattle.number.specs.declared.Number.TheVariants as number
+use Rattle.std.specs.Prelude.{Option as Opt, Some, None}
 use Rattle.words.specs.Same.{eqbs}
 use Rattle.words.proofs.Codes.{same_bytes}
 use Rattle.line.specs.Text.{lines, fields}
 use Rattle.words.specs.Word.{Entry, lookup, word_of}
-use Rattle.line.specs.Line as spec
-use Rattle.line.specs.Line.{rule, node, step, states, slot, sort_of, Line, bad, wrong, right, rule_kind, rule_line, atom_line, bound_line, step_line, no_field, one_field, two_fields, content, of_fields, parse}
+use Rattle.line.specs.Line.{rule, node, step, states, slot, sort_of, Line, bad, wrong, right, rule_kind, rule_of, rule_line, atom_line, bound_line, step_line, no_field, one_field, two_fields, content, of_fields, parse}
 use Rattle.words.specs.declared.word.Word.{Word}
 use Rattle.words.specs.declared.word.Word.TheVariants as word
 use Rattle.line.specs.declared.line.Sort.{Sort}
 use Rattle.line.specs.declared.line.Sort.TheVariants as sort
 use Rattle.line.specs.declared.line.Flaw.TheVariants as flaw
-use Rattle.book.specs.Book.{Book, empty, whole, Fault, first_fault, fault, opens, add, add_line, Outcome, accepted, refused, unless, read_on, ended, read}
+use Rattle.result.specs.declared.Refusal.{Refusal}
+use Rattle.book.specs.Book.{Book, empty, whole, first_fault, fault, opens, add, add_line, Outcome, accepted, refused, unless, read_on, ended, read}
 use Rattle.book_laws.specs.Before.{words_before, of_fields_before, parse_before, order_before, read_on_before, read_before, first_field, NoOpeningLine, NoOpenings, NoOpening, Unopened}
 
 -- ---- sorts and lines of document 01
@@ -49,47 +48,54 @@ OldWord word.Rule = Unit
 OldWord word.Step = Unit
 OldWord word.States = ⊥
 OldWord word.Slot = ⊥
-OldWord word.Unknown = Unit
+
+abbrev OldWords : Opt Word → Type 0
+OldWords None = Unit
+OldWords (Some w) = OldWord w
 
 abbrev AllOld : List Entry → Type 0
 AllOld [] = Unit
 AllOld (e ∷ es) = OldWord e.word × AllOld es
 
-lookup_old : (es : List Entry) (f : List ℕ) → AllOld es → OldWord (lookup es f)
+lookup_old : (es : List Entry) (f : List ℕ) → AllOld es → OldWords (lookup es f)
 unfolding lookup
 lookup_old [] f h = tt
 lookup_old (e ∷ es) f h = go (eqbs f e.spelling) (lookup es f) (lookup_old es f h.1)
   where
-    go : (t : Bool) (w : Word) → OldWord w → OldWord (pick t e.word w)
+    go : (t : Bool) (w : Opt Word) → OldWords w → OldWords (pick t (Some e.word) w)
     go true w k = h.0
     go false w k = k
 
-word_old : (f : List ℕ) → OldWord (lookup words_before f)
+word_old : (f : List ℕ) → OldWords (lookup words_before f)
 word_old f = lookup_old words_before f (tt, (tt, (tt, (tt, (tt, (tt, (tt, (tt, (tt, (tt, (tt, (tt, (tt, (tt, (tt, tt)))))))))))))))
 
 pick_old : (t : Bool) (a b : Line) → OldLine a → OldLine b → OldLine (pick t a b)
 pick_old true a b h k = h
 pick_old false a b h k = k
 
-atom_old : (op : ℕ) (n : Number) → OldLine (atom_line op n)
+atom_old : (op : ℕ) (n : Opt ℕ) → OldLine (atom_line op n)
 unfolding atom_line
-atom_old op number.Wrong = tt
-atom_old op (number.Value v) = pick_old (ltb v signals) (right (node op v)) (wrong sort.Node flaw.Number) tt tt
+atom_old op None = tt
+atom_old op (Some v) = pick_old (ltb v signals) (right (node op v)) (wrong sort.Node flaw.Number) tt tt
 
-bound_old : (op : ℕ) (n : Number) → OldLine (bound_line op n)
+bound_old : (op : ℕ) (n : Opt ℕ) → OldLine (bound_line op n)
 unfolding bound_line
-bound_old op number.Wrong = tt
-bound_old op (number.Value v) = tt
+bound_old op None = tt
+bound_old op (Some v) = tt
 
 rule_old : (f g : List ℕ) → OldLine (rule_line f g)
 unfolding rule_line
-rule_old f g = pick_old (eqb (rule_kind f g) kinds) (wrong sort.Rule flaw.Label) (right (rule f (rule_kind f g))) tt tt
+rule_old f g = go (rule_kind f g)
+  where
+    go : (k : Opt Kind) → OldLine (rule_of f k)
+    go None = tt
+    go (Some k) = tt
 
-step_old : (n m : Number) → OldLine (step_line n m)
+step_old : (n m : Opt ℕ) → OldLine (step_line n m)
 unfolding step_line
-step_old number.Wrong m = tt
-step_old (number.Value s) number.Wrong = tt
-step_old (number.Value s) (number.Value w) = pick_old (ltb s steps) (right (step s w)) (wrong sort.Step flaw.Number) tt tt
+step_old None m = tt
+step_old (Some s) None = tt
+step_old (Some s) (Some w) = pick_old (ltb s steps) (right (step s w)) (wrong sort.Step flaw.Number) tt tt
 
 one_old : (r : List ℕ → Line) (fs : List (List ℕ)) → ((f : List ℕ) → OldLine (r f)) → OldLine (one_field r fs)
 one_old r [] h = tt
@@ -106,16 +112,16 @@ none_old : (r : Line) (fs : List (List ℕ)) → OldLine r → OldLine (no_field
 none_old r [] h = h
 none_old r (f ∷ fs) h = tt
 
-content_old : (w : Word) (fs : List (List ℕ)) → OldWord w → OldLine (content w fs)
+content_old : (w : Opt Word) (fs : List (List ℕ)) → OldWords w → OldLine (content w fs)
 unfolding content
-content_old (word.Atom op) fs k = one_old (λ f. atom_line op (decimal_of f)) fs (λ f. atom_old op (decimal_of f))
-content_old (word.Plain op) fs k = none_old (right (node op 0)) fs tt
-content_old (word.Bounded op) fs k = one_old (λ f. bound_line op (decimal_of f)) fs (λ f. bound_old op (decimal_of f))
-content_old word.Rule fs k = two_old rule_line fs rule_old
-content_old word.Step fs k = two_old (λ f g. step_line (decimal_of f) (hex_of g)) fs (λ f g. step_old (decimal_of f) (hex_of g))
-content_old word.States fs k = absurd k
-content_old word.Slot fs k = absurd k
-content_old word.Unknown fs k = tt
+content_old (Some (word.Atom op)) fs k = one_old (λ f. atom_line op (decimal_of f)) fs (λ f. atom_old op (decimal_of f))
+content_old (Some (word.Plain op)) fs k = none_old (right (node op 0)) fs tt
+content_old (Some (word.Bounded op)) fs k = one_old (λ f. bound_line op (decimal_of f)) fs (λ f. bound_old op (decimal_of f))
+content_old (Some word.Rule) fs k = two_old rule_line fs rule_old
+content_old (Some word.Step) fs k = two_old (λ f g. step_line (decimal_of f) (hex_of g)) fs (λ f g. step_old (decimal_of f) (hex_of g))
+content_old (Some word.States) fs k = absurd k
+content_old (Some word.Slot) fs k = absurd k
+content_old None fs k = tt
 
 fields_old : (fs : List (List ℕ)) → OldLine (of_fields_before fs)
 unfolding of_fields_before
@@ -135,7 +141,7 @@ fields_same : (fs : List (List ℕ)) → eqbs (first_field fs) (115 ∷ 116 ∷ 
     → of_fields fs ≡ of_fields_before fs
 unfolding of_fields of_fields_before
 fields_same [] p q = refl
-fields_same (w ∷ fs) p q = ap (λ (x : Word). content x fs) (word_same w p q)
+fields_same (w ∷ fs) p q = ap (λ (x : Opt Word). content x fs) (word_same w p q)
 
 line_same : (l : List ℕ) → NoOpeningLine l → parse l ≡ parse_before l
 unfolding parse parse_before
@@ -175,25 +181,25 @@ refused_accepted e = let z : ◌≡◌ {A = ℕ} 0 1 = cc in absurd (omega arith
 accepted_is : {b c : Book} → accepted b ≡ accepted c → b ≡ c
 accepted_is e = cc
 
-states_unknown : lookup words_before (115 ∷ 116 ∷ 97 ∷ 116 ∷ 101 ∷ 115 ∷ []) ≡ word.Unknown
+states_unknown : lookup words_before (115 ∷ 116 ∷ 97 ∷ 116 ∷ 101 ∷ 115 ∷ []) ≡ None
 unfolding lookup eqbs
 states_unknown = refl
 
-slot_unknown : lookup words_before (115 ∷ 108 ∷ 111 ∷ 116 ∷ []) ≡ word.Unknown
+slot_unknown : lookup words_before (115 ∷ 108 ∷ 111 ∷ 116 ∷ []) ≡ None
 unfolding lookup eqbs
 slot_unknown = refl
 
-unknown_bad : (w : List ℕ) (fs : List (List ℕ)) → lookup words_before w ≡ word.Unknown → content (lookup words_before w) fs ≡ bad
+unknown_bad : (w : List ℕ) (fs : List (List ℕ)) → lookup words_before w ≡ None → content (lookup words_before w) fs ≡ bad
 unfolding content
 unknown_bad w fs e = rw e refl
 
 -- a line whose first field is a word that document 01 does not have is none
-opened_bad : (s : List ℕ) → lookup words_before s ≡ word.Unknown → (fs : List (List ℕ)) → eqbs (first_field fs) s ≡ true → of_fields_before fs ≡ bad
+opened_bad : (s : List ℕ) → lookup words_before s ≡ None → (fs : List (List ℕ)) → eqbs (first_field fs) s ≡ true → of_fields_before fs ≡ bad
 unfolding of_fields_before
 opened_bad s u [] e = refl
 opened_bad s u (w ∷ fs) e = unknown_bad w fs (ap (lookup words_before) (same_bytes w s e) ∙ u)
 
-unless_none : (o : Option Fault) (k : ℕ) (r : Outcome) (b : Book) → unless o k r ≡ accepted b → (o ≡ none) × (r ≡ accepted b)
+unless_none : (o : Option Refusal) (k : ℕ) (r : Outcome) (b : Book) → unless o k r ≡ accepted b → (o ≡ none) × (r ≡ accepted b)
 unless_none none k r b e = (refl, e)
 unless_none (some f) k r b e = refused_accepted e
 
@@ -201,7 +207,7 @@ bad_faulty : {A : Type 0} (b : Book) (l : Line) → l ≡ bad → first_fault or
 unfolding first_fault
 bad_faulty {A} b l e h = go (ap (first_fault order_before b) (sym e) ∙ h)
   where
-    go : some Rattle.book.specs.Book.word ≡ none → A
+    go : some Rattle.result.specs.declared.Refusal.TheVariants.Word ≡ none → A
     go z = let y : ◌≡◌ {A = ℕ} 0 1 = cc in absurd (omega arith)
 
 line_unopened : (b : Book) (l : List ℕ) → first_fault order_before b (parse_before l) ≡ none → NoOpeningLine l
@@ -211,7 +217,7 @@ line_unopened b l h = record {
   slot = go (115 ∷ 108 ∷ 111 ∷ 116 ∷ []) slot_unknown;
 }
   where
-    go : (s : List ℕ) → lookup words_before s ≡ word.Unknown → eqbs (first_field (fields l)) s ≡ false
+    go : (s : List ℕ) → lookup words_before s ≡ None → eqbs (first_field (fields l)) s ≡ false
     go s u = by (eqbs (first_field (fields l)) s) refl
       where
         by : (t : Bool) → eqbs (first_field (fields l)) s ≡ t → t ≡ false

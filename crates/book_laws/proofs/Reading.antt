@@ -2,20 +2,20 @@
 use mathlib.Core.Path.{◌≡◌, refl, ap, ◌∙◌}
 use mathlib.Core.Bool.{true}
 use mathlib.Core.List.{List, [], ◌∷◌, ◌++◌}
-use Prim.Native.Nat.{ℕ, zero, suc, ◌+◌, ◌^◌, ◌<◌}
+use Prim.Native.Nat.{ℕ, zero, suc, ◌^◌, ◌<◌}
 use native.Mathlib.Omega.{arith}
 use borrow.Author.Tests.{lt-ltb, le-leb}
-use lib.Dec.{eqb}
-use Rattle.terms.specs.Choice.{pick}
+use Rattle.std.specs.Prelude.{Some}
+use Rattle.terms.specs.Kinds.{kind_number}
+use Rattle.terms.specs.declared.kind.Kind.{Kind}
+use Rattle.terms.specs.declared.kind.Kind.TheVariants.{Property, Assumption}
 use Rattle.number.specs.Number.{decimal_of}
 use Rattle.formula.specs.Tree.{leaf_of, one_of, two_of, unknown}
 use Rattle.formula.specs.Formula.{Node, var, input, output, not, next, always, eventually, always_for, within, and, or, implies, until}
 use Rattle.words.specs.Same.{eqbs}
 use Rattle.line.specs.Text.{parts, onto, fields}
 use Rattle.words.specs.Word.{word_of, lookup}
-use Rattle.line.specs.Line.{rule, node, step, states, slot, wrong, right, is_label, kind_byte, kind_of, rule_kind, rule_line, atom_line, bound_line, step_line, states_line, width_line, slot_line, content, of_fields, parse}
-use Rattle.line.specs.declared.line.Sort.TheVariants as sort
-use Rattle.line.specs.declared.line.Flaw.TheVariants as flaw
+use Rattle.line.specs.Line.{rule, node, step, states, slot, right, is_label, kind_byte, kind_of, rule_kind, rule_line, atom_line, bound_line, step_line, states_line, width_line, slot_line, content, of_fields, parse}
 use Rattle.book.specs.Book.{StepLine}
 use Rattle.number.specs.Digits.{decimal, hex_digits}
 use Rattle.book_laws.specs.Write.{RuleText, SlotText, op_of, num_of, node_text, head_text, step_text, slot_text, SlotLimited}
@@ -73,10 +73,15 @@ node_free (two_of until) k = refl
 node_free unknown k = refl
 
 -- ---- a rule's head
-kind_back : (k : ℕ) → k < 2 → kind_of (kind_byte k ∷ []) ≡ k
+pub record KindBack (k : ℕ) : Type 0 where
+  pub kind : Kind
+  pub is : kind_of (kind_byte k ∷ []) ≡ Some kind
+  pub number : kind_number kind ≡ k
+
+kind_back : (k : ℕ) → k < 2 → KindBack k
 unfolding kind_of eqbs
-kind_back zero h = refl
-kind_back (suc zero) h = refl
+kind_back zero h = record { kind = Property; is = refl; number = refl }
+kind_back (suc zero) h = record { kind = Assumption; is = refl; number = refl }
 kind_back (suc (suc k)) h = absurd (omega arith)
 
 kind_fields : (k : ℕ) → fields (kind_byte k ∷ []) ≡ (kind_byte k ∷ []) ∷ []
@@ -88,12 +93,8 @@ pub head_line : (r : RuleText) → is_label r.label ≡ true → r.kind < 2 → 
 unfolding parse of_fields parts onto word_of lookup eqbs content rule_line rule_kind
 head_line r h k =
     let fs : fields (r.label ++ 9 ∷ kind_byte r.kind ∷ []) ≡ r.label ∷ (kind_byte r.kind ∷ []) ∷ [] = parts_free 9 ([] ∷ []) r.label (kind_byte r.kind ∷ []) (label_free 9 r.label (omega arith) (label_printable r.label h)) ∙ ap (r.label ∷◌) (kind_fields r.kind) in
-    rw (fs, h, kind_back r.kind k) (go r.kind k)
-  where
-    go : (m : ℕ) → m < 2 → pick (eqb m 2) (wrong sort.Rule flaw.Label) (right (rule r.label m)) ≡ right (rule r.label m)
-    go zero q = refl
-    go (suc zero) q = refl
-    go (suc (suc m)) q = absurd (omega arith)
+    let q : KindBack r.kind = kind_back r.kind k in
+    rw (fs, h, q.is) (ap (λ (n : ℕ). right (rule r.label n)) q.number)
 
 pub head_free : (r : RuleText) → is_label r.label ≡ true → free 10 (head_text r) ≡ true
 unfolding free

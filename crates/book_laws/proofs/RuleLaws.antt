@@ -3,7 +3,7 @@ use mathlib.Core.Path.{◌≡◌, refl, sym, ap, ap₂, subst, ◌∙◌}
 use mathlib.Core.Bool.{Bool, true, false, ◌&&◌}
 use mathlib.Core.List.{List, [], ◌∷◌, ◌++◌}
 use mathlib.Core.Option.{some}
-use Prim.Native.Nat.{ℕ, zero, suc, ◌+◌, ◌-◌, ◌≤◌, ◌<◌}
+use Prim.Native.Nat.{ℕ, zero, suc, ◌+◌, ◌≤◌, ◌<◌}
 use native.Mathlib.Omega.{arith}
 use native.Mathlib.Numerals.{add-one}
 use lib.ListN.{length, get_or, take, drop, length-append, length-drop, get_or-append}
@@ -20,8 +20,8 @@ use Rattle.line.specs.Line.{Content, rule, step, states, slot, Line, right, pars
 use Rattle.line.specs.Line as spec
 use Rattle.line.proofs.Sane.{Sane, NodeSane}
 use Rattle.book.specs.Book.{Book, StepLine, empty, is_nil, whole, head_of, last_of, bump, spend, fault, add, add_line, accepted, refused, read_on, read}
-use Rattle.book.specs.declared.state.States.{States}
-use Rattle.book.specs.declared.state.States.TheVariants.{Stood}
+use Rattle.std.specs.Prelude.{Option as Opt}
+use Rattle.std.specs.Prelude.{Some}
 use Rattle.reader.specs.BookTables.{BookTables, SlotTables, over, written, roomy, roomy_slots, read_into}
 use Rattle.reader.proofs.Sounds.{Passed, PassedLine, passed, sane, nodes_left, node_inside, Sound, sound_empty, sound_add}
 use Rattle.reader.proofs.Runs.{accepted_lines, accepted_inj, unless_none}
@@ -262,7 +262,7 @@ node_ruled n b op v s i ok p =
     })
 
 -- a line that is no rule and no node leaves the rules as they are
-others_ruled : (b : Book) (ss : List StepLine) (h : ℕ) (m : States) (ns : List (List ℕ)) (ws : List ℕ) → Ruled b → Ruled (record {
+others_ruled : (b : Book) (ss : List StepLine) (h : ℕ) (m : Opt ℕ) (ns : List (List ℕ)) (ws : List ℕ) → Ruled b → Ruled (record {
   labels = b.labels;
   kinds = b.kinds;
   firsts = b.firsts;
@@ -284,7 +284,7 @@ unfolding add Rattle.book.specs.Book.stands
 ruled_by n b (rule l m) s r k p = rule_ruled n b l m s (whole_nil b (Rattle.reader.proofs.Sounds.both {a = whole b} {b = is_nil b.steps} p.here).0 r)
 ruled_by n b (spec.node op v) s r k p = node_ruled n b op v s (hand_in b (node_inside b op v p) r) k p
 ruled_by n b (step u w) s r k p = others_ruled b (b.steps ++ record { number = u; truths = w } ∷ []) b.head b.states b.names b.widths r
-ruled_by n b (states c) s r k p = others_ruled b b.steps (b.head + n) (Stood c) b.names b.widths r
+ruled_by n b (states c) s r k p = others_ruled b b.steps (b.head + n) (Some c) b.names b.widths r
 ruled_by n b (slot l w) s r k p = others_ruled b b.steps (b.head + n) b.states (b.names ++ l ∷ []) (b.widths ++ w ∷ []) r
 
 -- ---- kinds: 0 or 1

@@ -8,10 +8,10 @@ use lib.ListN.{length, get_or}
 use Rattle.formula.specs.Formula.{Formula}
 use Rattle.formula.specs.Table.{rule_of}
 use Rattle.book.specs.Book.{Book, accepted}
-use Rattle.book.specs.declared.state.States.{States}
+use Rattle.std.specs.Prelude.{Ok}
 use Rattle.reader.specs.BookTables.{BookTables, SlotTables, written, read_into}
 use Rattle.reader.specs.Answer.{Reads}
-use Rattle.reader.specs.declared.read.Answer.TheVariants.{Read}
+use Rattle.reader.specs.declared.read.Read.{Read}
 use Rattle.reader.proofs.Answers.{ReadBack, read_inv}
 use Rattle.book_laws.proofs.RuleLaws as laws
 
@@ -19,8 +19,8 @@ pub rules_of_book : (text : List ℕ) (t : BookTables) (u : SlotTables) (b : Boo
 rules_of_book = laws.rules_of_book
 
 -- the same from what `read_book` ensures: t and u the tables before, t' and u' after
-pub rules_of_tables : (text : List ℕ) (t : BookTables) (u : SlotTables) (t' : BookTables) (u' : SlotTables) (rules nodes steps-at slots : ℕ) (states : States) → Reads text t u (Read rules nodes steps-at slots states) t' u' → (k : ℕ) → k < rules → (f : Formula) × (rule_of t'.ops t'.nums (get_or t'.firsts k 0) (get_or t'.counts k 0) ≡ some f)
-rules_of_tables text t u t' u' rules nodes steps-at slots states p k h =
-    let a : ReadBack text t u t' u' rules nodes steps-at slots states = read_inv text t u t' u' rules nodes steps-at slots states p in
-    subst (λ (x : BookTables). (f : Formula) × (rule_of x.ops x.nums (get_or x.firsts k 0) (get_or x.counts k 0) ≡ some f)) (sym a.tables)
-    (rules_of_book text t u a.book a.is k (subst (λ (m : ℕ). k < m) a.counted.rules h))
+pub rules_of_tables : (text : List ℕ) (t : BookTables) (u : SlotTables) (t' : BookTables) (u' : SlotTables) (a : Read) → Reads text t u (Ok a) t' u' → (k : ℕ) → k < a.rules → (f : Formula) × (rule_of t'.ops t'.nums (get_or t'.firsts k 0) (get_or t'.counts k 0) ≡ some f)
+rules_of_tables text t u t' u' a p k h =
+    let b : ReadBack text t u t' u' a = read_inv text t u t' u' a p in
+    subst (λ (x : BookTables). (f : Formula) × (rule_of x.ops x.nums (get_or x.firsts k 0) (get_or x.counts k 0) ≡ some f)) (sym b.tables)
+    (rules_of_book text t u b.book b.is k (subst (λ (m : ℕ). k < m) b.counted.rules h))

@@ -4,7 +4,7 @@ use mathlib.Core.Bool.{Bool, true, false, ◌&&◌}
 use mathlib.Core.Bool as bool
 use mathlib.Core.List.{List, [], ◌∷◌, ◌++◌}
 use mathlib.Core.Logic.{⊎_elim}
-use Prim.Native.Nat.{ℕ, zero, suc, ◌+◌, ◌-◌, ◌*◌, ◌/◌, ◌%◌, ◌^◌, ◌≤◌, ◌<◌}
+use Prim.Native.Nat.{ℕ, zero, suc, ◌+◌, ◌*◌, ◌/◌, ◌%◌, ◌^◌, ◌≤◌, ◌<◌}
 use native.Mathlib.Omega.{arith}
 use native.Mathlib.Numerals.{add-one}
 use native.Mathlib.Nat.{pow-succ', pow-zero, add-mul, mul_assoc, add_assoc}
@@ -13,7 +13,7 @@ use lib.Dec.{eqb, leb, ltb}
 use lib.ListN.{length, length-append}
 use Rattle.terms.specs.Choice.{pick}
 use Rattle.number.specs.Number.{digit_of, below, places, plain, value_in, decimal_of, hex_of}
-use Rattle.number.specs.declared.Number.TheVariants.{Value}
+use Rattle.std.specs.Prelude.{Some}
 use Rattle.number.proofs.Numbers.{below_or}
 use Rattle.line.specs.Text.{parts, onto, lines, fields}
 use Rattle.line.specs.Line.{printable, is_label}
@@ -164,7 +164,7 @@ plain_is n l d = rw d.is (⊎_elim
 word_digits : (n : ℕ) → n < 2 ^ 64 → Digits n (decimal n)
 word_digits n h = digits_are 20 n (omega arith) (omega arith)
 
-pub decimal_back : (n : ℕ) → n < 2 ^ 64 → decimal_of (decimal n) ≡ Value n
+pub decimal_back : (n : ℕ) → n < 2 ^ 64 → decimal_of (decimal n) ≡ Some n
 unfolding decimal_of value_in
 decimal_back n h =
     let d : Digits n (decimal n) = word_digits n h in
@@ -199,7 +199,7 @@ hex_are (suc k) n h =
 word_hex : (n : ℕ) → n < 2 ^ 64 → HexDigits 16 n (hex_digits 16 n)
 word_hex n h = hex_are 16 n (omega arith)
 
-pub hex_back : (n : ℕ) → n < 2 ^ 64 → hex_of (hex_digits 16 n) ≡ Value n
+pub hex_back : (n : ℕ) → n < 2 ^ 64 → hex_of (hex_digits 16 n) ≡ Some n
 unfolding hex_of value_in
 hex_back n h =
     let d : HexDigits 16 n (hex_digits 16 n) = word_hex n h in

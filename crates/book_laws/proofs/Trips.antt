@@ -3,7 +3,7 @@ use mathlib.Core.Path.{◌≡◌, refl, sym, ap, ap₂, subst, ◌∙◌}
 use mathlib.Core.Bool.{Bool, true, false}
 use mathlib.Core.List.{List, [], ◌∷◌, ◌++◌, map, append_assoc, append-nil}
 use mathlib.Core.Option.{none}
-use Prim.Native.Nat.{ℕ, suc, ◌+◌, ◌-◌, ◌^◌, ◌≤◌, ◌<◌}
+use Prim.Native.Nat.{ℕ, suc, ◌+◌, ◌^◌, ◌≤◌, ◌<◌}
 use native.Mathlib.Omega.{arith}
 use native.Mathlib.Numerals.{add-one}
 use borrow.Author.Tests.{lt-ltb, le-leb, leb-true}
@@ -17,8 +17,8 @@ use Rattle.line.specs.Line.{Content, rule, step, states, slot, right, parse}
 use Rattle.line.specs.Line as spec
 use Rattle.book.specs.Book.{Book, StepLine, empty, is_nil, head_of, last_of, bump, spend, opening, stands, opens, first_fault, fault, add, accepted, refused, read_on}
 use Rattle.book.specs.Book as books
-use Rattle.book.specs.declared.state.States.{States}
-use Rattle.book.specs.declared.state.States.TheVariants.{Absent, Stood}
+use Rattle.std.specs.Prelude.{Option as Opt}
+use Rattle.std.specs.Prelude.{None, Some}
 use Rattle.book.proofs.States.{last_snoc}
 use Rattle.book_laws.specs.Write.{RuleText, SlotText, OpeningText, op_of, num_of, node_text, head_text, step_text, states_lines, slot_text, opening_lines, rule_lines, CountLimited, SlotsLimited, OpeningLimited, name_of, width_of, Bounded, RuleLimited, RulesLimited, StepsLimited, nodes_of, firsts_from, label_of, kind_of, count_of}
 use Rattle.book_laws.proofs.Texts.{AllFree}
@@ -335,9 +335,9 @@ free_opening : (o : OpeningText) (ls : List (List ℕ)) → OpeningLimited o →
 unfolding opening_lines
 free_opening o ls l f = go o.states l.count
   where
-    go : (c : States) → CountLimited c → AllFree ((states_lines c ++ map slot_text o.slots) ++ ls)
-    go Absent h = free_slots o.slots ls l.slots f
-    go (Stood c) h = (states_free c h, free_slots o.slots ls l.slots f)
+    go : (c : Opt ℕ) → CountLimited c → AllFree ((states_lines c ++ map slot_text o.slots) ++ ls)
+    go None h = free_slots o.slots ls l.slots f
+    go (Some c) h = (states_free c h, free_slots o.slots ls l.slots f)
 
 pub free_book : (o : OpeningText) (rs : List RuleText) (ss : List StepLine) → OpeningLimited o → RulesLimited rs → StepsLimited ss
     → AllFree (opening_lines o ++ (rule_lines rs ++ map step_text ss))
@@ -345,7 +345,7 @@ free_book o rs ss k l m = free_opening o (rule_lines rs ++ map step_text ss) k (
 
 -- ---- the opening lines
 -- only slots have been added, and no rule or step stands
-pub record Opened (c : States) (names : List (List ℕ)) (widths : List ℕ) (b : Book) : Type 0 where
+pub record Opened (c : Opt ℕ) (names : List (List ℕ)) (widths : List ℕ) (b : Book) : Type 0 where
   pub labels_is : b.labels ≡ []
   pub kinds_is : b.kinds ≡ []
   pub firsts_is : b.firsts ≡ []
@@ -358,7 +358,7 @@ pub record Opened (c : States) (names : List (List ℕ)) (widths : List ℕ) (b 
   pub names_is : b.names ≡ names
   pub widths_is : b.widths ≡ widths
 
-pub record OpeningRead (b : Book) (k : ℕ) (c : States) (names : List (List ℕ)) (widths : List ℕ) (ls : List (List ℕ)) : Type 0 where
+pub record OpeningRead (b : Book) (k : ℕ) (c : Opt ℕ) (names : List (List ℕ)) (widths : List ℕ) (ls : List (List ℕ)) : Type 0 where
   pub book : Book
   pub line : ℕ
   pub reach : Reach b k ls book line
@@ -368,7 +368,7 @@ slot_right : (b : Book) (l : List ℕ) (w : ℕ) → b.labels ≡ [] → b.steps
 unfolding fault first_fault stands opening opens books.within
 slot_right b l w p q m = rw (ap is_nil p, ap is_nil q, lt-ltb (length b.names) 32 m) refl
 
-slots_read : (ss : List SlotText) (b : Book) (k : ℕ) (c : States) (names : List (List ℕ)) (widths : List ℕ) → Opened c names widths b → SlotsLimited ss
+slots_read : (ss : List SlotText) (b : Book) (k : ℕ) (c : Opt ℕ) (names : List (List ℕ)) (widths : List ℕ) → Opened c names widths b → SlotsLimited ss
     → length names + length ss ≤ 32 → OpeningRead b k c (names ++ map name_of ss) (widths ++ map width_of ss) (map slot_text ss)
 unfolding add
 slots_read [] b k c names widths p l m = record {
@@ -405,7 +405,7 @@ slots_read (s ∷ ss) b k c names widths p l m =
           (subst (λ (x : List ℕ). Opened c ((names ++ s.name ∷ []) ++ map name_of ss) x q.book) (snoc_cons widths s.width (map width_of ss)) q.opened);
     }
 
-opened_empty : Opened Absent [] [] empty
+opened_empty : Opened None [] [] empty
 opened_empty = record { labels_is = refl; kinds_is = refl; firsts_is = refl; counts_is = refl; ops_is = refl; nums_is = refl; steps_is = refl; due_is = refl; states_is = refl; names_is = refl; widths_is = refl }
 
 states_right : (c : ℕ) → fault empty (right (states c)) ≡ none
@@ -416,14 +416,14 @@ opening_read : (o : OpeningText) → OpeningLimited o → OpeningRead empty 0 o.
 unfolding opening_lines add
 opening_read o l = go o.states l.count
   where
-    go : (c : States) → CountLimited c → OpeningRead empty 0 c (map name_of o.slots) (map width_of o.slots) (states_lines c ++ map slot_text o.slots)
-    go Absent h = slots_read o.slots empty 0 Absent [] [] opened_empty l.slots (omega (arith, l.few))
-    go (Stood c) h =
+    go : (c : Opt ℕ) → CountLimited c → OpeningRead empty 0 c (map name_of o.slots) (map width_of o.slots) (states_lines c ++ map slot_text o.slots)
+    go None h = slots_read o.slots empty 0 None [] [] opened_empty l.slots (omega (arith, l.few))
+    go (Some c) h =
         let t : List ℕ = 115 ∷ 116 ∷ 97 ∷ 116 ∷ 101 ∷ 115 ∷ 9 ∷ Rattle.number.specs.Digits.decimal c in
         let b₁ : Book = add (length t + 1) empty (states c) in
         let r : Reach empty 0 (t ∷ []) b₁ 1 = reach_one empty 0 t (states c) (states_line_lem c h) (states_right c) in
-        let p : Opened (Stood c) [] [] b₁ = record { labels_is = refl; kinds_is = refl; firsts_is = refl; counts_is = refl; ops_is = refl; nums_is = refl; steps_is = refl; due_is = refl; states_is = refl; names_is = refl; widths_is = refl } in
-        let q : OpeningRead b₁ 1 (Stood c) (map name_of o.slots) (map width_of o.slots) (map slot_text o.slots) = slots_read o.slots b₁ 1 (Stood c) [] [] p l.slots (omega (arith, l.few)) in
+        let p : Opened (Some c) [] [] b₁ = record { labels_is = refl; kinds_is = refl; firsts_is = refl; counts_is = refl; ops_is = refl; nums_is = refl; steps_is = refl; due_is = refl; states_is = refl; names_is = refl; widths_is = refl } in
+        let q : OpeningRead b₁ 1 (Some c) (map name_of o.slots) (map width_of o.slots) (map slot_text o.slots) = slots_read o.slots b₁ 1 (Some c) [] [] p l.slots (omega (arith, l.few)) in
         record { book = q.book; line = q.line; reach = reach_append empty b₁ q.book 0 1 q.line (t ∷ []) (map slot_text o.slots) r q.reach; opened = q.opened }
 
 -- ---- the whole

@@ -2,14 +2,17 @@
 --     read_before    what document 01 says of a text
 --     NoOpening     no line begins with `states` or `slot`
 use Rattle.std.specs.Prelude.{◌≡◌, false, List, [], ◌∷◌, ℕ, ◌+◌, leb, length, take}
+use Rattle.std.specs.Prelude.{None}
 use Rattle.std.proofs.Math.Option.{Option}
+use Rattle.result.specs.declared.Refusal.{Refusal}
+use Rattle.result.specs.declared.Refusal.TheVariants as why
 use Rattle.terms.specs.Limits.{book_bytes}
 use Rattle.terms.specs.Choice.{pick}
 use Rattle.words.specs.Same.{eqbs}
 use Rattle.line.specs.Text.{lines, fields}
 use Rattle.words.specs.Word.{Entry, vocabulary, lookup}
 use Rattle.line.specs.Line.{Line, bad, content}
-use Rattle.book.specs.Book.{Book, empty, whole, Fault, no_word, by_sort, wrong_field, stands, within, place, limit, first_fault, add_line, Outcome, accepted, refused, unless, ended}
+use Rattle.book.specs.Book.{Book, empty, whole, no_word, by_sort, wrong_field, stands, within, first_fault, add_line, Outcome, accepted, refused, unless, ended}
 
 -- document 01's words
 abbrev pub words_before : List Entry
@@ -23,8 +26,8 @@ unfoldable pub parse_before : List ℕ → Line
 parse_before l = of_fields_before (fields l)
 
 -- 5, 6, 7 or 8, 9
-abbrev pub order_before : List (Book → Line → Option Fault)
-order_before = no_word ∷ by_sort stands place ∷ wrong_field ∷ by_sort within limit ∷ []
+abbrev pub order_before : List (Book → Line → Option Refusal)
+order_before = no_word ∷ by_sort stands why.Place ∷ wrong_field ∷ by_sort within why.Limit ∷ []
 
 unfoldable pub read_on_before : Book → ℕ → List (List ℕ) → Outcome
 read_on_before b k [] = pick (whole b) (accepted b) (refused 10 k)
@@ -53,6 +56,6 @@ NoOpening t = NoOpenings (lines t)
 
 -- a book that document 01 reads has no state and no slot
 pub record Unopened (b : Book) : Type 0 where
-  pub states : b.states ≡ Rattle.book.specs.declared.state.States.TheVariants.Absent
+  pub states : b.states ≡ None
   pub names : b.names ≡ []
   pub widths : b.widths ≡ []

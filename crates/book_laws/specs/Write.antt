@@ -10,8 +10,8 @@ use Rattle.formula.specs.Formula.{Formula, Node, var, input, output, not, next, 
 use Rattle.formula.specs.Table.{in_word}
 use Rattle.line.specs.Line.{is_label, kind_byte}
 use Rattle.book.specs.Book.{Book, StepLine, accepted, read}
-use Rattle.book.specs.declared.state.States.{States}
-use Rattle.book.specs.declared.state.States.TheVariants.{Absent, Stood}
+use Rattle.std.specs.Prelude.{Option as Opt}
+use Rattle.std.specs.Prelude.{None, Some}
 
 -- a rule of the list: its label, its kind (0 property, 1 assumption) and its formula
 pub record RuleText : Type 0 where
@@ -25,7 +25,7 @@ pub record SlotText : Type 0 where
   pub width : ℕ
 
 pub record OpeningText : Type 0 where
-  pub states : States
+  pub states : Opt ℕ
   pub slots : List SlotText
 
 -- ---- lines
@@ -85,9 +85,9 @@ abbrev pub step_text : StepLine → List ℕ
 step_text s = 115 ∷ 116 ∷ 101 ∷ 112 ∷ 9 ∷ (decimal s.number ++ 9 ∷ hex_digits 16 s.truths)
 
 -- `states` and its count, if it is to stand; `slot`, its name, its width
-abbrev pub states_lines : States → List (List ℕ)
-states_lines Absent = []
-states_lines (Stood c) = (115 ∷ 116 ∷ 97 ∷ 116 ∷ 101 ∷ 115 ∷ 9 ∷ decimal c) ∷ []
+abbrev pub states_lines : Opt ℕ → List (List ℕ)
+states_lines None = []
+states_lines (Some c) = (115 ∷ 116 ∷ 97 ∷ 116 ∷ 101 ∷ 115 ∷ 9 ∷ decimal c) ∷ []
 
 abbrev pub slot_text : SlotText → List ℕ
 slot_text s = 115 ∷ 108 ∷ 111 ∷ 116 ∷ 9 ∷ (s.name ++ 9 ∷ decimal s.width)
@@ -134,9 +134,9 @@ unfoldable pub nodes_of : List RuleText → List Node
 nodes_of [] = []
 nodes_of (r ∷ rs) = prefix r.formula ++ nodes_of rs
 
-abbrev pub CountLimited : States → Type 0
-CountLimited Absent = Unit
-CountLimited (Stood c) = c < state_counts
+abbrev pub CountLimited : Opt ℕ → Type 0
+CountLimited None = Unit
+CountLimited (Some c) = c < state_counts
 
 pub record SlotLimited (s : SlotText) : Type 0 where
   pub named : is_label s.name ≡ true

@@ -1,3 +1,2 @@
--- Laws of the exported calls: the numbers of an answer, and a call with its answer told.
-pub mod Telling
+-- Laws of the exported calls: a call with its answer told.
 pub mod Exported

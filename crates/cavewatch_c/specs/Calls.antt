@@ -1,6 +1,7 @@
 -- What each exported call answers and leaves in what it was lent: the entry point's result, told as a number (`Numbers`), and the same memory.
 use Rattle.std.specs.Prelude.{◌≡◌, List, ℕ}
 use Rattle.result.specs.Result.{given}
+use Rattle.result.specs.Refusal.{told as result_of}
 use Rattle.book.specs.Book.{book_result}
 use Rattle.reader.specs.BookTables.{BookTables, SlotTables, read_into, after, slots_after}
 use Rattle.reader.specs.Steps.{next_step}
@@ -30,25 +31,25 @@ pub record CompileRule (ops nums : List ℕ) (first count : ℕ) (out found : Li
   pub nodes : out' ≡ (compile_call ops nums first count out).out
 
 pub record Fresh (t : Lent.LentTables) (forms bounds : List ℕ) (mem : Memory) (r : ℕ) (forms' bounds' : List ℕ) (mem' : Memory) : Type 0 where
-  pub number : r ≡ (told made_told (fresh_call t forms bounds mem).answer).number
+  pub number : r ≡ (told made_told (result_of (fresh_call t forms bounds mem).answer)).number
   pub forms_are : forms' ≡ (fresh_call t forms bounds mem).forms
   pub bounds_are : bounds' ≡ (fresh_call t forms bounds mem).bounds
   pub memory_is : mem' ≡ (fresh_call t forms bounds mem).memory
 
 pub record Step (t : Lent.LentTables) (k : LentMonitor) (s w : ℕ) (r : ℕ) (mem' : Memory) : Type 0 where
-  pub number : r ≡ (told step_told (step_call t k s w).answer).number
+  pub number : r ≡ (told step_told (result_of (step_call t k s w).answer)).number
   pub memory : mem' ≡ (step_call t k s w).memory
 
 pub record Run (t : Lent.LentTables) (k : LentMonitor) (s : ℕ) (words found : List ℕ) (r : ℕ) (mem' : Memory) (found' : List ℕ) : Type 0 where
-  pub says : SaysTold (told run_told (run_call t k s words).answer) found r found'
+  pub says : SaysTold (told run_told (result_of (run_call t k s words).answer)) found r found'
   pub memory : mem' ≡ (run_call t k s words).memory
 
 pub record Save (t : Lent.LentTables) (k : LentMonitor) (bytes found : List ℕ) (r : ℕ) (bytes' found' : List ℕ) : Type 0 where
-  pub says : SaysTold (told count_told (save_call t k bytes).answer) found r found'
+  pub says : SaysTold (told count_told (result_of (save_call t k bytes).answer)) found r found'
   pub bytes_are : bytes' ≡ (save_call t k bytes).bytes
 
 pub record Restore (t : Lent.LentTables) (forms bounds : List ℕ) (mem : Memory) (bytes : List ℕ) (r : ℕ) (forms' bounds' : List ℕ) (mem' : Memory) : Type 0 where
-  pub number : r ≡ (told made_told (restore_call t forms bounds mem bytes).answer).number
+  pub number : r ≡ (told made_told (result_of (restore_call t forms bounds mem bytes).answer)).number
   pub forms_are : forms' ≡ (restore_call t forms bounds mem bytes).forms
   pub bounds_are : bounds' ≡ (restore_call t forms bounds mem bytes).bounds
   pub memory_is : mem' ≡ (restore_call t forms bounds mem bytes).memory

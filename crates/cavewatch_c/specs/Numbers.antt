@@ -8,8 +8,8 @@ use Rattle.std.specs.Prelude.{Bool, true, false, List, [], ◌∷◌, ℕ, ◌+�
 use Rattle.std.proofs.Math.Option.{Option, none, some}
 use Rattle.result.specs.Result.{Result, given, refused}
 use Rattle.book.specs.Book.{count_in, BookResult, contents, refusal}
-use Rattle.book.specs.declared.state.States.{States}
-use Rattle.book.specs.declared.state.States.TheVariants.{Absent, Stood}
+use Rattle.std.specs.Prelude.{None, Some}
+use Rattle.std.specs.Prelude.{Option as Opt}
 use Rattle.reader.specs.Steps.{Next}
 
 pub record Told : Type 0 where
@@ -24,9 +24,9 @@ told f (given a) = f a
 told f (refused n) = tell n []
 
 -- 1 where a `states` line stood, else 0
-abbrev pub stood_in : States → ℕ
-stood_in Absent = 0
-stood_in (Stood c) = 1
+abbrev pub stood_in : Opt ℕ → ℕ
+stood_in None = 0
+stood_in (Some c) = 1
 
 -- a book: the counts of rules and nodes, the place of the first step line, the count of slots, whether a `states` line stood, the count of states
 abbrev pub book_told : BookResult → Told
@@ -52,6 +52,6 @@ step_told true = tell 100 []
 step_told false = tell 0 []
 
 -- a run: the first step that is reported
-abbrev pub run_told : Option ℕ → Told
-run_told none = tell 0 []
-run_told (some s) = tell 100 (s ∷ [])
+abbrev pub run_told : Opt ℕ → Told
+run_told None = tell 0 []
+run_told (Some s) = tell 100 (s ∷ [])

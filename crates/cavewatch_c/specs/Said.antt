@@ -1,9 +1,10 @@
 -- How a result is said: the number is the answer, the further numbers stand in front of what `found` held.
-use Rattle.std.specs.Prelude.{List, [], ◌∷◌, ◌≡◌, ℕ, ◌≤◌}
+use Rattle.std.specs.Prelude.{List, [], ◌∷◌, ◌≡◌, ℕ, ◌≤◌, Result, Ok, Err}
 use Rattle.std.proofs.lemmas.List.Edits.{sets}
 use Rattle.terms.specs.Limits.{book_bytes}
-use Rattle.reader.specs.declared.read.Answer.{Answer}
-use Rattle.reader.specs.declared.read.Answer.TheVariants.{Read, Refused}
+use Rattle.result.specs.Refusal.{number_of}
+use Rattle.book.specs.declared.check.Refused.{Refused}
+use Rattle.reader.specs.declared.read.Read.{Read}
 use Rattle.cavewatch_c.specs.Numbers.{Told, tell}
 use Rattle.cavewatch_c.specs.declared.tell.Said.{Said}
 use Rattle.cavewatch_c.specs.declared.tell.Said.TheVariants.{Number, One, Three, Six}
@@ -19,6 +20,6 @@ told_by (Three a b c) = tell 0 (a ∷ b ∷ c ∷ [])
 told_by (Six a b c d e f) = tell 0 (a ∷ b ∷ c ∷ d ∷ e ∷ f ∷ [])
 
 -- a refusal of a book has a number up to 25 and a line up to 65,535
-abbrev pub SmallLine : Answer → Type 0
-SmallLine (Read r n s m c) = Unit
-SmallLine (Refused n k) = (n ≤ 25) × (k ≤ book_bytes)
+abbrev pub SmallLine : Result Read Refused → Type 0
+SmallLine (Ok a) = Unit
+SmallLine (Err r) = (number_of r.refusal ≤ 25) × (r.line ≤ book_bytes)

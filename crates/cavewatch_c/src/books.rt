@@ -2,7 +2,7 @@
 ghost use Rattle.cavewatch_c.specs.Calls.{ReadBook, NextStep, ListBook};
 ghost use Rattle.reader.specs.BookTables.{columns, slot_columns};
 
-use crate::tell::{say, tell_line, tell_listed, tell_read};
+use crate::tell::{say, tell_count, tell_line, tell_read};
 use listing::whole::list_book;
 use reader::read::read_book;
 use reader::steps::next_step;
@@ -40,8 +40,7 @@ pub extern "C" fn cavewatch_read_book(
 pub extern "C" fn cavewatch_next_step(text: &[u8], at: usize, found: &mut [u64; 6]) -> u64
     ensures { NextStep text.now at found.old result found.new }
 {
-    let line = next_step(text, at);
-    say(tell_line(line), found)
+    say(tell_line(next_step(text, at)), found)
 }
 
 // Lists a whole book into a lent output of at least 262,144 bytes.
@@ -49,6 +48,5 @@ pub extern "C" fn cavewatch_next_step(text: &[u8], at: usize, found: &mut [u64; 
 pub extern "C" fn cavewatch_list_book(text: &[u8], out: &mut [u8], found: &mut [u64; 6]) -> u64
     ensures { ListBook text.now out.old found.old result out.new found.new }
 {
-    let answer = list_book(text, out);
-    say(tell_listed(answer), found)
+    say(tell_count(list_book(text, out)), found)
 }

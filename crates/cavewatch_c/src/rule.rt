@@ -1,10 +1,15 @@
 // A rule from C: compiled, and its monitor made, stepped, saved and restored in lent memory.
 ghost use Rattle.cavewatch_c.specs.Calls.{CompileRule, Fresh, Step, Run, Save, Restore};
+ghost use Rattle.std.specs.Prelude.{◌≡◌};
 ghost use Rattle.node_step.specs.Memory.{entries};
 ghost use Rattle.lent.specs.Lent.{monitor_of, tables};
 
-use crate::tell::{say, tell_compiled, tell_made, tell_run, tell_saved, tell_verdict};
+use crate::tell::{say, tell_count, tell_made, tell_run, tell_step};
 use compiler::compile_formula;
+use formula::table::FormulaTable;
+use lent::Frame;
+use monitor::table::{Part, Tables};
+use node_step::state::{Entries, Memory};
 use runs::run;
 use saving::restore::restore;
 use saving::save::save;
@@ -23,8 +28,9 @@ pub extern "C" fn cavewatch_compile_rule(
 ) -> u64
     ensures { CompileRule ops.now nums.now first count nodes.old found.old result nodes.new found.new }
 {
-    let answer = compile_formula(ops, nums, first, count, nodes);
-    say(tell_compiled(answer), found)
+    let table = FormulaTable { ops, nums };
+    let answer = compile_formula(&table, first, count, nodes);
+    say(tell_count(answer), found)
 }
 
 // Makes the monitor of a compiled rule.
@@ -48,11 +54,21 @@ pub extern "C" fn cavewatch_fresh(
         forms.old bounds.old (entries held.old remaining.old failed.old culprits.old) result
         forms.new bounds.new (entries held.new remaining.new failed.new culprits.new) }
 {
-    let outcome = fresh(
-        ops, nums, first, count, nodes, nfirst, ncount, forms, bounds, held, remaining, failed,
+    let tables = Tables::new(ops, nums, nodes);
+    let part = Part {
+        first,
+        count,
+        nfirst,
+        ncount,
+    };
+    let mut memory = Memory {
+        held,
+        remaining,
+        failed,
         culprits,
-    );
-    tell_made(outcome)
+    };
+    let answer = fresh(&tables, part, forms, bounds, &mut memory);
+    tell_made(answer)
 }
 
 // Steps a monitor once, at step s with truths w.
@@ -80,11 +96,26 @@ pub extern "C" fn cavewatch_step(
         (entries held.old remaining.old failed.old culprits.old)) s w result
         (entries held.new remaining.new failed.new culprits.new) }
 {
-    let verdict = step(
-        ops, nums, first, count, nodes, nfirst, ncount, size, forms, bounds, held, remaining,
-        failed, culprits, s, w,
-    );
-    tell_verdict(verdict)
+    let tables = Tables::new(ops, nums, nodes);
+    let part = Part {
+        first,
+        count,
+        nfirst,
+        ncount,
+    };
+    let frame = Frame {
+        size,
+        forms,
+        bounds,
+    };
+    let mut memory = Memory {
+        held,
+        remaining,
+        failed,
+        culprits,
+    };
+    let answer = step(&tables, part, &frame, &mut memory, s, w);
+    tell_step(answer)
 }
 
 // Steps a monitor over many words, the first of them at step s.
@@ -113,11 +144,26 @@ pub extern "C" fn cavewatch_run(
         (entries held.old remaining.old failed.old culprits.old)) s words.now
         found.old result (entries held.new remaining.new failed.new culprits.new) found.new }
 {
-    let verdict = run(
-        ops, nums, first, count, nodes, nfirst, ncount, size, forms, bounds, held, remaining,
-        failed, culprits, s, words,
-    );
-    say(tell_run(verdict), found)
+    let tables = Tables::new(ops, nums, nodes);
+    let part = Part {
+        first,
+        count,
+        nfirst,
+        ncount,
+    };
+    let frame = Frame {
+        size,
+        forms,
+        bounds,
+    };
+    let mut memory = Memory {
+        held,
+        remaining,
+        failed,
+        culprits,
+    };
+    let answer = run(&tables, part, &frame, &mut memory, s, words);
+    say(tell_run(answer), found)
 }
 
 // Saves a monitor into the bytes.
@@ -145,11 +191,26 @@ pub extern "C" fn cavewatch_save(
         (entries held.now remaining.now failed.now culprits.now)) bytes.old
         found.old result bytes.new found.new }
 {
-    let saved = save(
-        ops, nums, first, count, nodes, nfirst, ncount, size, forms, bounds, held, remaining,
-        failed, culprits, bytes,
-    );
-    say(tell_saved(saved), found)
+    let tables = Tables::new(ops, nums, nodes);
+    let part = Part {
+        first,
+        count,
+        nfirst,
+        ncount,
+    };
+    let frame = Frame {
+        size,
+        forms,
+        bounds,
+    };
+    let entries = Entries {
+        held,
+        remaining,
+        failed,
+        culprits,
+    };
+    let answer = save(&tables, part, &frame, &entries, bytes);
+    say(tell_count(answer), found)
 }
 
 // Makes the monitor of a compiled rule with the state that the bytes hold.
@@ -175,9 +236,19 @@ pub extern "C" fn cavewatch_restore(
         bytes.now result
         forms.new bounds.new (entries held.new remaining.new failed.new culprits.new) }
 {
-    let outcome = restore(
-        ops, nums, first, count, nodes, nfirst, ncount, forms, bounds, held, remaining, failed,
-        culprits, bytes,
-    );
-    tell_made(outcome)
+    let tables = Tables::new(ops, nums, nodes);
+    let part = Part {
+        first,
+        count,
+        nfirst,
+        ncount,
+    };
+    let mut memory = Memory {
+        held,
+        remaining,
+        failed,
+        culprits,
+    };
+    let answer = restore(&tables, part, forms, bounds, &mut memory, bytes);
+    tell_made(answer)
 }

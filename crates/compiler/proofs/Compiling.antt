@@ -1,15 +1,13 @@
 -- One step of the compiler's walk, for each word.
 use mathlib.Core.Path.{◌≡◌, refl, sym, ap, subst, ◌∙◌}
-use mathlib.Core.Bool.{Bool, true, false}
+use mathlib.Core.Bool.{Bool, true}
 use mathlib.Core.List.{List, [], ◌∷◌, ◌++◌}
 use Prim.Native.Nat.{ℕ, ◌+◌, ◌*◌, ◌≤◌, ◌<◌, ◌^◌}
 use native.Mathlib.Omega.{arith}
 use lib.ListN.{length, get_or}
 use lib.Seq.{sets}
-use mir.Syntax.{w64}
-use mir.Val.{Fits}
-use Rattle.formula.specs.declared.table.Walk.{Walk}
-use Rattle.formula.specs.declared.table.Walk.TheVariants.{Upto as Ends, Stuck}
+use Rattle.std.specs.Prelude.{None, Option, Some, Ok, Err, ok_or}
+use Rattle.std.specs.Prelude.{Result as Returned}
 use Rattle.formula.specs.Tree.{leaf, one, two, size}
 use Rattle.formula.specs.Spells.{Spells}
 use Rattle.formula.specs.Formula.{Formula, not, next, always, eventually, always_for, within, implies}
@@ -25,11 +23,12 @@ use Rattle.monitor.specs.declared.node.SignalExpr.TheVariants.{True, At}
 use Rattle.monitor.specs.declared.node.MonNode.{MonNode}
 use Rattle.monitor.specs.declared.node.MonNode.TheVariants.{RangeCheck, DelayedCheck, Obligation}
 use Rattle.compiler.specs.declared.Laid.{Laid}
-use Rattle.compiler.specs.declared.Laid.TheVariants.{Upto, Refused}
-use Rattle.monitor.specs.Range.{upto_of, shifted_of, Shiftable}
+use Rattle.result.specs.declared.Refusal.{Refusal}
+use Rattle.result.specs.declared.Refusal.TheVariants.{Antecedent, WithinOperand, NextConsequent, Consequent, NextOperand, NotOperand}
+use Rattle.monitor.specs.Range.{shifted_of}
 use Rattle.monitor.specs.Mon.{always_true, at, Check, range_check, delayed_check, obligation, Mon, check, count, rows, node_row, node_of}
 use Rattle.monitor.specs.Compile.{consequent, faults, anchor, implication, node}
-use Rattle.compiler.specs.Compiled.{CompileReady, Implied, LaidAt, CheckLaid, CompiledAt}
+use Rattle.compiler.specs.Compiled.{laid_to, CompileReady, Implied, LaidAt, CheckLaid, CompiledAt}
 use Rattle.compiler.proofs.Words.{is_not, is_next, is_within, is_implies}
 
 -- ---- what a walk is handed
@@ -62,38 +61,40 @@ module _ (ops nums : List ℕ) (i : ℕ) (r : AnchorRange) (out : List ℕ) (to 
   placed_of_within h = placed_operand (omega arith) (omega arith)
 
 -- ---- one check stored, or one refusal
-module _ (ops nums : List ℕ) (p n : ℕ) (out : List ℕ) (to : ℕ) (row : MonNode) (k : Walk) (a : Purely ops nums p k) where
-  pub impure_laid : k ≡ Stuck → CheckLaid ops nums p n out to row out (Refused n)
-  impure_laid q = record {
-    is = λ c y g s. subst (λ (b : Bool). LaidAt (unless b n) (check c) to (p + size g) out out (Refused n)) (sym (purely_no ops nums p k a g s q)) refl;
-  }
+-- the refusal of an `ok_or` of nothing
+ok_or_none : (k : Option ℕ) (n m : Refusal) → k ≡ None → Err m ≡ ok_or k n → m ≡ n
+ok_or_none k n m q w = err_inj (w ∙ ap (λ (x : Option ℕ). ok_or x n) q)
+  where
+    err_inj : {a b : Refusal} → ◌≡◌ {A = Returned ℕ Refusal} (Err a) (Err b) → a ≡ b
+    err_inj h = cc
 
-  pub pure_row : (e : ℕ) (out' : List ℕ) (z : Laid) → k ≡ Ends e → (z ≡ Upto (to + 1) e) × (out' ≡ sets out (7 * to) (node_row row)) → CheckLaid ops nums p n out to row out' z
+module _ (ops nums : List ℕ) (p : ℕ) (n : Refusal) (out : List ℕ) (to : ℕ) (row : MonNode) (k : Option ℕ) (a : Purely ops nums p k) where
+  pub pure_row : (e : ℕ) (out' : List ℕ) (z : Returned Laid Refusal) → k ≡ Some e → (z ≡ Ok (laid_to (to + 1) e)) × (out' ≡ sets out (7 * to) (node_row row)) → CheckLaid ops nums p n out to row out' z
   unfolding count rows
   pure_row e out' z q w = record {
     is = λ c y g s.
         let (b, m) = purely_yes ops nums p k a g s e q in
         subst (λ (x : Bool). LaidAt (unless x n) (check c) to (p + size g) out out' z) (sym b)
-        (w.0 ∙ ap (Upto (to + 1)) m, w.1 ∙ ap (λ (x : MonNode). sets out (7 * to) (node_row x)) y);
+        (w.0 ∙ ap (λ (x : ℕ). Ok (laid_to (to + 1) x)) m, w.1 ∙ ap (λ (x : MonNode). sets out (7 * to) (node_row x)) y);
   }
 
-module _ (fs : List ℕ) (m : Mon) (to e : ℕ) (out out' : List ℕ) (z : Laid) where
-  laid_check : (c : Check) → fs ≡ [] → m ≡ check c → (z ≡ Upto (to + 1) e) × (out' ≡ sets out (7 * to) (node_row (node_of c))) → LaidAt fs m to e out out' z
+module _ (fs : List Refusal) (m : Mon) (to e : ℕ) (out out' : List ℕ) (z : Returned Laid Refusal) where
+  laid_check : (c : Check) → fs ≡ [] → m ≡ check c → (z ≡ Ok (laid_to (to + 1) e)) × (out' ≡ sets out (7 * to) (node_row (node_of c))) → LaidAt fs m to e out out' z
   unfolding count rows
   laid_check c p q w =
-      subst (λ (x : List ℕ). LaidAt x m to e out out' z) (sym p)
+      subst (λ (x : List Refusal). LaidAt x m to e out out' z) (sym p)
       (subst (λ (x : Mon). LaidAt [] x to e out out' z) (sym q) w)
 
-  pub laid_refused : (n : ℕ) (ns : List ℕ) → fs ≡ n ∷ ns → z ≡ Refused n → LaidAt fs m to e out out' z
-  laid_refused n ns p w = subst (λ (x : List ℕ). LaidAt x m to e out out' z) (sym p) w
+  pub laid_refused : (n : Refusal) (ns : List Refusal) → fs ≡ n ∷ ns → z ≡ Err n → LaidAt fs m to e out out' z
+  laid_refused n ns p w = subst (λ (x : List Refusal). LaidAt x m to e out out' z) (sym p) w
 
-module _ (ops nums : List ℕ) (i : ℕ) (r : AnchorRange) (t : Bool) (out out' : List ℕ) (to : ℕ) (z : Laid) where
+module _ (ops nums : List ℕ) (i : ℕ) (r : AnchorRange) (t : Bool) (out out' : List ℕ) (to : ℕ) (z : Returned Laid Refusal) where
   -- a check of the formula f, which ends at e
   compiled_check : (f : Formula) (s : Spells (node_at ops nums) i f) (e : ℕ) (c : Check) → faults f t ≡ [] → node f i r t ≡ check c → e ≡ i + size f
-      → (z ≡ Upto (to + 1) e) × (out' ≡ sets out (7 * to) (node_row (node_of c))) → LaidAt (faults f t) (node f i r t) to (i + size f) out out' z
-  compiled_check f s e c p q k w = laid_check (faults f t) (node f i r t) to (i + size f) out out' z c p q (w.0 ∙ ap (Upto (to + 1)) k, w.1)
+      → (z ≡ Ok (laid_to (to + 1) e)) × (out' ≡ sets out (7 * to) (node_row (node_of c))) → LaidAt (faults f t) (node f i r t) to (i + size f) out out' z
+  compiled_check f s e c p q k w = laid_check (faults f t) (node f i r t) to (i + size f) out out' z c p q (w.0 ∙ ap (λ (x : ℕ). Ok (laid_to (to + 1) x)) k, w.1)
 
-  pub atom_laid : get_or ops i 0 < 3 → (z ≡ Upto (to + 1) (i + 1)) × (out' ≡ sets out (7 * to) (node_row (RangeCheck (At i) r))) → CompiledAt ops nums i r t out to out' z
+  pub atom_laid : get_or ops i 0 < 3 → (z ≡ Ok (laid_to (to + 1) (i + 1))) × (out' ≡ sets out (7 * to) (node_row (RangeCheck (At i) r))) → CompiledAt ops nums i r t out to out' z
   unfolding faults node size
   atom_laid h w = record {
     is = λ f s.
@@ -106,13 +107,13 @@ module _ (ops nums : List ℕ) (i : ℕ) (r : AnchorRange) (t : Bool) (out out' 
   }
 
   -- the same of a check whose formula ends with a pure one
-  compiled_as : (f : Formula) (fs : List ℕ) (c : Check) (e : ℕ) → faults f t ≡ fs → node f i r t ≡ check c → i + size f ≡ e → LaidAt fs (check c) to e out out' z
+  compiled_as : (f : Formula) (fs : List Refusal) (c : Check) (e : ℕ) → faults f t ≡ fs → node f i r t ≡ check c → i + size f ≡ e → LaidAt fs (check c) to e out out' z
       → LaidAt (faults f t) (node f i r t) to (i + size f) out out' z
   compiled_as f fs c e p q k w =
-      subst (λ (x : List ℕ). LaidAt x (node f i r t) to (i + size f) out out' z) (sym p)
+      subst (λ (x : List Refusal). LaidAt x (node f i r t) to (i + size f) out out' z) (sym p)
       (subst (λ (x : Mon). LaidAt fs x to (i + size f) out out' z) (sym q) (subst (λ (x : ℕ). LaidAt fs (check c) to x out out' z) (sym k) w))
 
-  pub not_laid : get_or ops i 0 ≡ 3 → CheckLaid ops nums (i + 1) 18 out to (RangeCheck (At i) r) out' z → CompiledAt ops nums i r t out to out' z
+  pub not_laid : get_or ops i 0 ≡ 3 → CheckLaid ops nums (i + 1) NotOperand out to (RangeCheck (At i) r) out' z → CompiledAt ops nums i r t out to out' z
   unfolding faults node size
   not_laid h w = record {
     is = λ f s.
@@ -121,7 +122,7 @@ module _ (ops nums : List ℕ) (i : ℕ) (r : AnchorRange) (t : Bool) (out out' 
         (w.is (range_check (at i (one not g)) r) refl g v);
   }
 
-  pub next_laid : (r' : AnchorRange) → get_or ops i 0 ≡ 4 → r' ≡ shifted_of r → CheckLaid ops nums (i + 1) 17 out to (RangeCheck (At (i + 1)) r') out' z
+  pub next_laid : (r' : AnchorRange) → get_or ops i 0 ≡ 4 → r' ≡ shifted_of r → CheckLaid ops nums (i + 1) NextOperand out to (RangeCheck (At (i + 1)) r') out' z
       → CompiledAt ops nums i r t out to out' z
   unfolding faults node size
   next_laid r' h y w = record {
@@ -133,7 +134,7 @@ module _ (ops nums : List ℕ) (i : ℕ) (r : AnchorRange) (t : Bool) (out out' 
         (w.is (range_check (at (i + 1) g) r') refl g v);
   }
 
-  pub within_laid : (r' : AnchorRange) → get_or ops i 0 ≡ 8 → r' ≡ anchor t r → CheckLaid ops nums (i + 1) 14 out to (Obligation (get_or nums i 0) True (At (i + 1)) r') out' z
+  pub within_laid : (r' : AnchorRange) → get_or ops i 0 ≡ 8 → r' ≡ anchor t r → CheckLaid ops nums (i + 1) WithinOperand out to (Obligation (get_or nums i 0) True (At (i + 1)) r') out' z
       → CompiledAt ops nums i r t out to out' z
   unfolding faults node size
   within_laid r' h y w = record {
@@ -145,16 +146,10 @@ module _ (ops nums : List ℕ) (i : ℕ) (r : AnchorRange) (t : Bool) (out out' 
         (w.is (obligation (get_or nums i 0) always_true (at (i + 1) g) r') refl g v);
   }
 
-pub anchored_not : (t : Bool) (r r' : AnchorRange) → t ≡ false → r' ≡ upto_of 0 → r' ≡ anchor t r
-anchored_not t r r' h e = e ∙ sym (ap (λ (b : Bool). anchor b r) h)
-
-pub anchored_yes : (t : Bool) (r : AnchorRange) → t ≡ true → r ≡ anchor t r
-anchored_yes t r h = sym (ap (λ (b : Bool). anchor b r) h)
-
 -- ---- implications
 -- a consequent that is neither `within` nor `next`: the whole implication is the signal
 other : (ops nums : List ℕ) (j : ℕ) (c : Formula) → Spells (node_at ops nums) j c → (get_or ops j 0 ≡ 8 → ⊥) → (get_or ops j 0 ≡ 4 → ⊥)
-    → (l : Formula) (i : ℕ) (r : AnchorRange) (t : Bool) → (consequent c ≡ unless (pure c) 16) × (implication l c i j r t ≡ range_check (at i (two implies l c)) r)
+    → (l : Formula) (i : ℕ) (r : AnchorRange) (t : Bool) → (consequent c ≡ unless (pure c) Consequent) × (implication l c i j r t ≡ range_check (at i (two implies l c)) r)
 unfolding consequent implication Spells node_at
 other ops nums j (leaf a) s h h' l i r t = (refl, refl)
 other ops nums j (one not f) s h h' l i r t = (refl, refl)
@@ -165,35 +160,26 @@ other ops nums j (one (always_for b) f) s h h' l i r t = (refl, refl)
 other ops nums j (one (within b) f) s h h' l i r t = absurd (h (unary_number _ _ (within b) s.0))
 other ops nums j (two o m n) s h h' l i r t = (refl, refl)
 
-pub purely_upto : (ops nums : List ℕ) (i e : ℕ) (w : Walk) → Purely ops nums i w → w ≡ Ends e → Purely ops nums i (Ends e)
-purely_upto ops nums i e w p q = subst (Purely ops nums i) q p
-
 module _ (ops nums : List ℕ) (i : ℕ) (r : AnchorRange) (out : List ℕ) (to : ℕ) (d : CompileReady ops nums i r out to) (h : get_or ops i 0 ≡ 11) where
   pub placed_antecedent : Placed ops nums (i + 1)
   placed_antecedent = placed_left ops nums i d.place (omega arith)
 
-  module _ (j : ℕ) (w : Walk) (p : Purely ops nums (i + 1) w) (q : w ≡ Ends j) where
+  module _ (j : ℕ) (w : Option ℕ) (p : Purely ops nums (i + 1) w) (q : w ≡ Some j) where
     consequent_place : Placed ops nums j
     consequent_place = placed_right ops nums i d.place j (omega arith) (λ f s. (purely_yes ops nums (i + 1) w p f s j q).1)
 
     pub consequent_in : j < length ops
     consequent_in = in_ops ops nums j consequent_place
 
-    pub implied : Implied ops nums i j r out to
-    implied = record { ready = d; word = h; left = purely_upto ops nums (i + 1) j w p q }
-
 module _ (ops nums : List ℕ) (i j : ℕ) (r : AnchorRange) (out : List ℕ) (to : ℕ) (d : Implied ops nums i j r out to) where
   pub implied_room : 7 * (to + 1) ≤ length out
   implied_room = ready_room ops nums i r out to d.ready
 
   pub placed_consequent : Placed ops nums j
-  placed_consequent = consequent_place ops nums i r out to d.ready d.word j (Ends j) d.left refl
+  placed_consequent = consequent_place ops nums i r out to d.ready d.word j (Some j) d.left refl
 
   pub consequent_nums : j < length nums
   consequent_nums = in_nums ops nums j placed_consequent
-
-  pub implied_shift : Shiftable r
-  implied_shift = d.ready.shift
 
   pub placed_owed : get_or ops j 0 ≡ 8 → Placed ops nums (j + 1)
   placed_owed h = placed_one ops nums j placed_consequent (omega arith) (omega arith)
@@ -210,30 +196,27 @@ module _ (ops nums : List ℕ) (i j : ℕ) (r : AnchorRange) (out : List ℕ) (t
   pub consequent_fits : Placed ops nums (j + 1) → length ops < 2 ^ 64 → j + 1 + 1 < 2 ^ 64
   consequent_fits q h = omega (arith, in_ops ops nums (j + 1) q)
 
-  pub behind_fits : length ops < 2 ^ 64 → Fits w64 (j + 1)
-  behind_fits h = record { fits = omega (arith, in_ops ops nums j placed_consequent) }
-
   -- the formula there: the antecedent is pure, and the consequent stands at j
   parts : (f : Formula) → Spells (node_at ops nums) i f → (l : Formula) × (c : Formula) × (f ≡ two implies l c) × (pure l ≡ true) × (j ≡ i + 1 + size l) × Spells (node_at ops nums) j c
   parts f s =
       let (l, c, u, v, w) = is_implies ops nums i f s d.word in
-      let (b, n) = purely_yes ops nums (i + 1) (Ends j) d.left l v j refl in
+      let (b, n) = purely_yes ops nums (i + 1) (Some j) d.left l v j refl in
       (l, c, u, b, n, subst (λ (m : ℕ). Spells (node_at ops nums) m c) (sym n) w)
 
-  module _ (t : Bool) (out' : List ℕ) (z : Laid) where
+  module _ (t : Bool) (out' : List ℕ) (z : Returned Laid Refusal) where
     -- a check of an implication, in terms of its parts
     implied_as : (f l c : Formula) → f ≡ two implies l c → pure l ≡ true → j ≡ i + 1 + size l → (x : Check) → implication l c i j r t ≡ x
-        → (fs : List ℕ) (e : ℕ) → consequent c ≡ fs → j + size c ≡ e → LaidAt fs (check x) to e out out' z → LaidAt (faults f t) (node f i r t) to (i + size f) out out' z
+        → (fs : List Refusal) (e : ℕ) → consequent c ≡ fs → j + size c ≡ e → LaidAt fs (check x) to e out out' z → LaidAt (faults f t) (node f i r t) to (i + size f) out out' z
     unfolding faults node size
     implied_as f l c u b n x q fs e p m w =
         compiled_as ops nums i r t out out' to z f fs x e
-        (ap (λ (y : Formula). faults y t) u ∙ ap (λ (y : Bool). unless y 13 ++ consequent c) b ∙ p)
+        (ap (λ (y : Formula). faults y t) u ∙ ap (λ (y : Bool). unless y Antecedent ++ consequent c) b ∙ p)
         (ap (λ (y : Formula). node y i r t) u ∙ ap (λ (y : ℕ). check (implication l c i y r t)) (sym n) ∙ ap check q)
         (omega (arith, ap (λ (y : Formula). size y) u))
         w
 
     pub owed_laid : (r' : AnchorRange) → get_or ops j 0 ≡ 8 → r' ≡ anchor t r
-        → CheckLaid ops nums (j + 1) 14 out to (Obligation (get_or nums j 0) (At (i + 1)) (At (j + 1)) r') out' z → CompiledAt ops nums i r t out to out' z
+        → CheckLaid ops nums (j + 1) WithinOperand out to (Obligation (get_or nums j 0) (At (i + 1)) (At (j + 1)) r') out' z → CompiledAt ops nums i r t out to out' z
     unfolding consequent implication size
     owed_laid r' h y w = record {
       is = λ f s.
@@ -245,7 +228,7 @@ module _ (ops nums : List ℕ) (i j : ℕ) (r : AnchorRange) (out : List ℕ) (t
     }
 
     pub delayed_laid : (r' : AnchorRange) → get_or ops j 0 ≡ 4 → r' ≡ shifted_of r
-        → CheckLaid ops nums (j + 1) 15 out to (DelayedCheck (At (i + 1)) (At (j + 1)) r') out' z → CompiledAt ops nums i r t out to out' z
+        → CheckLaid ops nums (j + 1) NextConsequent out to (DelayedCheck (At (i + 1)) (At (j + 1)) r') out' z → CompiledAt ops nums i r t out to out' z
     unfolding consequent implication size
     delayed_laid r' h y w = record {
       is = λ f s.
@@ -256,7 +239,7 @@ module _ (ops nums : List ℕ) (i j : ℕ) (r : AnchorRange) (out : List ℕ) (t
           _ _ (ap consequent u') (omega (arith, ap (λ (x : Formula). size x) u')) (w.is _ refl g v');
     }
 
-    pub pure_laid : (get_or ops j 0 ≡ 8 → ⊥) → (get_or ops j 0 ≡ 4 → ⊥) → CheckLaid ops nums j 16 out to (RangeCheck (At i) r) out' z → CompiledAt ops nums i r t out to out' z
+    pub pure_laid : (get_or ops j 0 ≡ 8 → ⊥) → (get_or ops j 0 ≡ 4 → ⊥) → CheckLaid ops nums j Consequent out to (RangeCheck (At i) r) out' z → CompiledAt ops nums i r t out to out' z
     pure_laid h h' w = record {
       is = λ f s.
           let (l, c, u, b, n, v) = parts f s in
@@ -264,11 +247,13 @@ module _ (ops nums : List ℕ) (i j : ℕ) (r : AnchorRange) (out : List ℕ) (t
           implied_as f l c u b n (range_check (at i (two implies l c)) r) y _ _ x refl (w.is _ refl c v);
     }
 
-pub antecedent_refused : (ops nums : List ℕ) (i : ℕ) (r : AnchorRange) (t : Bool) (out : List ℕ) (to : ℕ) (k : Walk) → get_or ops i 0 ≡ 11 → Purely ops nums (i + 1) k → k ≡ Stuck
-    → CompiledAt ops nums i r t out to out (Refused 13)
+pub antecedent_refused : (ops nums : List ℕ) (i : ℕ) (r : AnchorRange) (t : Bool) (out : List ℕ) (to : ℕ) (k : Option ℕ) (m : Refusal) → get_or ops i 0 ≡ 11 → Purely ops nums (i + 1) k
+    → Err m ≡ ok_or k Antecedent → k ≡ None → CompiledAt ops nums i r t out to out (Err m)
 unfolding faults
-antecedent_refused ops nums i r t out to k h p q = record {
+antecedent_refused ops nums i r t out to k m h p w q = record {
   is = λ f s.
-      let (l, c, u, v, w) = is_implies ops nums i f s h in
-      laid_refused _ _ _ _ _ _ _ 13 (consequent c) (ap (λ (y : Formula). faults y t) u ∙ ap (λ (y : Bool). unless y 13 ++ consequent c) (purely_no ops nums (i + 1) k p l v q)) refl;
+      let (l, c, u, v, x) = is_implies ops nums i f s h in
+      laid_refused _ _ _ _ _ _ _ Antecedent (consequent c)
+      (ap (λ (y : Formula). faults y t) u ∙ ap (λ (y : Bool). unless y Antecedent ++ consequent c) (purely_no ops nums (i + 1) k p l v q))
+      (ap Err (ok_or_none k Antecedent m q w));
 }

@@ -1,7 +1,7 @@
 -- The compiler's walk over words that have whole checks below them: `always`, `always-for`, `and`, `or`.
 use mathlib.Core.Path.{◌≡◌, refl, sym, ap, ap₂, subst, ◌∙◌}
 use mathlib.Core.Bool.{Bool, true, false}
-use mathlib.Core.Logic.{◌⊎◌, ⊎_elim}
+use mathlib.Core.Logic.{⊎_elim}
 use mathlib.Core.List.{List, [], ◌∷◌, ◌++◌}
 use Prim.Native.Nat.{ℕ, ◌+◌, ◌-◌, ◌*◌, ◌≤◌, ◌<◌, ◌^◌}
 use native.Mathlib.Omega.{arith}
@@ -18,17 +18,20 @@ use Rattle.formula.specs.Table.{node_at}
 use Rattle.formula.proofs.Cases.{below_or}
 use Rattle.formula.proofs.Trees.{size_pos}
 use Rattle.formula.proofs.Nodes.{number_of, binary_number}
-use Rattle.formula.proofs.Places.{one_there, two_there, in_ops, in_nums}
+use Rattle.formula.proofs.Places.{one_there, two_there, in_ops}
 use Rattle.monitor.specs.declared.range.AnchorRange.{AnchorRange}
 use Rattle.monitor.specs.declared.node.MonNode.{MonNode}
 use Rattle.monitor.specs.declared.node.MonNode.TheVariants.{And as AndNode, Or as OrNode}
 use Rattle.compiler.specs.declared.Laid.{Laid}
-use Rattle.compiler.specs.declared.Laid.TheVariants.{Upto, Refused}
+use Rattle.result.specs.declared.Refusal.{Refusal}
+use Rattle.result.specs.declared.Refusal.TheVariants.{NestedFor, ZeroFor, Liveness}
+use Rattle.std.specs.Prelude.{Ok, Err}
+use Rattle.std.specs.Prelude.{Result as Returned}
 use Rattle.monitor.specs.Range.{upto_of, Shiftable}
 use Rattle.monitor.specs.Mon.{Mon, check, And, Or, count, rows, node_row, node_of, join_node}
 use Rattle.monitor.specs.Table.{NodeNumbered}
 use Rattle.monitor.specs.Compile.{when, faults, node}
-use Rattle.compiler.specs.Compiled.{CompileReady, LaidAt, CompiledAt}
+use Rattle.compiler.specs.Compiled.{laid_to, CompileReady, LaidAt, CompiledAt}
 use Rattle.compiler.proofs.Words.{is_always, is_eventually, is_always_for, is_and, is_or, is_until}
 use Rattle.monitor.proofs.Rows.{sets_append}
 use Rattle.compiler.proofs.Compiling.{laid_refused}
@@ -62,26 +65,25 @@ rows_length (And m n) = simp length-append (omega (arith, rows_length m, rows_le
 rows_length (Or m n) = simp length-append (omega (arith, rows_length m, rows_length n))
 
 -- ---- what an answer says of the refusals
-pub laid_upto : (fs : List ℕ) (m : Mon) (to e n j : ℕ) (out out' : List ℕ) (z : Laid) → LaidAt fs m to e out out' z → z ≡ Upto n j
-    → (fs ≡ []) × (n ≡ to + count m) × (j ≡ e) × (out' ≡ sets out (7 * to) (rows m))
-laid_upto [] m to e n j out out' z w q = (refl, up_left (sym q ∙ w.0), up_right (sym q ∙ w.0), w.1)
+pub laid_upto : (fs : List Refusal) (m : Mon) (to e : ℕ) (l : Laid) (out out' : List ℕ) (z : Returned Laid Refusal) → LaidAt fs m to e out out' z → z ≡ Ok l
+    → (fs ≡ []) × (l.rows ≡ to + count m) × (l.end ≡ e) × (out' ≡ sets out (7 * to) (rows m))
+laid_upto [] m to e l out out' z w q =
+    let h : l ≡ laid_to (to + count m) e = ok_inj (sym q ∙ w.0) in
+    (refl, ap (λ (x : Laid). x.rows) h, ap (λ (x : Laid). x.end) h, w.1)
   where
-    up_left : {a b c d : ℕ} → Upto a b ≡ Upto c d → a ≡ c
-    up_left h = cc
-
-    up_right : {a b c d : ℕ} → Upto a b ≡ Upto c d → b ≡ d
-    up_right h = cc
-laid_upto (k ∷ ks) m to e n j out out' z w q =
-    let h : ◌≡◌ {A = Laid} (Upto n j) (Refused k) = sym q ∙ w in
+    ok_inj : {a b : Laid} → ◌≡◌ {A = Returned Laid Refusal} (Ok a) (Ok b) → a ≡ b
+    ok_inj h = cc
+laid_upto (k ∷ ks) m to e l out out' z w q =
+    let h : ◌≡◌ {A = Returned Laid Refusal} (Ok l) (Err k) = sym q ∙ w in
     let a : ◌≡◌ {A = ℕ} 0 1 = cc in absurd (omega arith)
 
-pub laid_no : (fs : List ℕ) (m : Mon) (to e k : ℕ) (out out' : List ℕ) (z : Laid) → LaidAt fs m to e out out' z → z ≡ Refused k → (ns : List ℕ) × (fs ≡ k ∷ ns)
+pub laid_no : (fs : List Refusal) (m : Mon) (to e : ℕ) (k : Refusal) (out out' : List ℕ) (z : Returned Laid Refusal) → LaidAt fs m to e out out' z → z ≡ Err k → (ns : List Refusal) × (fs ≡ k ∷ ns)
 laid_no [] m to e k out out' z w q =
-    let h : ◌≡◌ {A = Laid} (Refused k) (Upto (to + count m) e) = sym q ∙ w.0 in
+    let h : ◌≡◌ {A = Returned Laid Refusal} (Err k) (Ok (laid_to (to + count m) e)) = sym q ∙ w.0 in
     let a : ◌≡◌ {A = ℕ} 0 1 = cc in absurd (omega arith)
-laid_no (n ∷ ns) m to e k out out' z w q = (ns, ap (λ (x : ℕ). x ∷ ns) (inj (sym w ∙ q)))
+laid_no (n ∷ ns) m to e k out out' z w q = (ns, ap (λ (x : Refusal). x ∷ ns) (inj (sym w ∙ q)))
   where
-    inj : {a b : ℕ} → Refused a ≡ Refused b → a ≡ b
+    inj : {a b : Refusal} → ◌≡◌ {A = Returned Laid Refusal} (Err a) (Err b) → a ≡ b
     inj h = cc
 
 -- ---- always
@@ -110,11 +112,8 @@ module _ (ops nums : List ℕ) (i : ℕ) (r : AnchorRange) (out : List ℕ) (to 
   pub falls_from_part : (t : ℕ) → 2 * (length ops - i) ≡ t → 2 * (length ops - (i + 1)) + 1 < t
   falls_from_part t h = omega (arith, in_ops ops nums i d.place)
 
-  pub falls_to_part : (t : ℕ) → 2 * (length ops - i) + 1 ≡ t → 2 * (length ops - i) < t
-  falls_to_part t h = omega arith
-
 module _ (ops nums : List ℕ) (i : ℕ) (r : AnchorRange) (t : Bool) (out : List ℕ) (to : ℕ) where
-  pub always_laid : (out' : List ℕ) (z : Laid) → get_or ops i 0 ≡ 5 → CompiledAt ops nums (i + 1) r true out to out' z → CompiledAt ops nums i r t out to out' z
+  pub always_laid : (out' : List ℕ) (z : Returned Laid Refusal) → get_or ops i 0 ≡ 5 → CompiledAt ops nums (i + 1) r true out to out' z → CompiledAt ops nums i r t out to out' z
   unfolding faults node size
   always_laid out' z h p = record {
     is = λ f s.
@@ -123,31 +122,31 @@ module _ (ops nums : List ℕ) (i : ℕ) (r : AnchorRange) (t : Bool) (out : Lis
         (subst (λ (n : ℕ). LaidAt (faults g true) (node g (i + 1) r true) to n out out' z) (omega arith) (p.is g v));
   }
 
-  pub always_for_under : get_or ops i 0 ≡ 7 → t ≡ true → CompiledAt ops nums i r t out to out (Refused 11)
+  pub always_for_under : get_or ops i 0 ≡ 7 → t ≡ true → CompiledAt ops nums i r t out to out (Err NestedFor)
   unfolding faults
   always_for_under h q = record {
     is = λ f s.
         let (g, u, v) = is_always_for ops nums i f s h in
-        laid_refused _ _ _ _ _ _ _ 11 _ (ap (λ (x : Formula). faults x t) u ∙ ap (λ (b : Bool). when b 11 ++ (when (eqb (get_or nums i 0) 0) 12 ++ faults g true)) q) refl;
+        laid_refused _ _ _ _ _ _ _ NestedFor _ (ap (λ (x : Formula). faults x t) u ∙ ap (λ (b : Bool). when b NestedFor ++ (when (eqb (get_or nums i 0) 0) ZeroFor ++ faults g true)) q) refl;
   }
 
-  pub always_for_zero : get_or ops i 0 ≡ 7 → t ≡ false → get_or nums i 0 ≡ 0 → CompiledAt ops nums i r t out to out (Refused 12)
+  pub always_for_zero : get_or ops i 0 ≡ 7 → t ≡ false → get_or nums i 0 ≡ 0 → CompiledAt ops nums i r t out to out (Err ZeroFor)
   unfolding faults
   always_for_zero h q b = record {
     is = λ f s.
         let (g, u, v) = is_always_for ops nums i f s h in
-        laid_refused _ _ _ _ _ _ _ 12 _ (ap (λ (x : Formula). faults x t) u ∙ ap₂ (λ (x y : Bool). when x 11 ++ (when y 12 ++ faults g true)) q (eq-eqb (get_or nums i 0) 0 b)) refl;
+        laid_refused _ _ _ _ _ _ _ ZeroFor _ (ap (λ (x : Formula). faults x t) u ∙ ap₂ (λ (x y : Bool). when x NestedFor ++ (when y ZeroFor ++ faults g true)) q (eq-eqb (get_or nums i 0) 0 b)) refl;
   }
 
-  pub always_for_laid : (r' : AnchorRange) (out' : List ℕ) (z : Laid) → get_or ops i 0 ≡ 7 → t ≡ false → (get_or nums i 0 ≡ 0 → ⊥) → r' ≡ upto_of (get_or nums i 0 - 1)
+  pub always_for_laid : (r' : AnchorRange) (out' : List ℕ) (z : Returned Laid Refusal) → get_or ops i 0 ≡ 7 → t ≡ false → (get_or nums i 0 ≡ 0 → ⊥) → r' ≡ upto_of (get_or nums i 0 - 1)
       → CompiledAt ops nums (i + 1) r' true out to out' z → CompiledAt ops nums i r t out to out' z
   unfolding faults node size
   always_for_laid r' out' z h q b e p = record {
     is = λ f s.
         let (g, u, v) = is_always_for ops nums i f s h in
         subst (λ (x : Formula). LaidAt (faults x t) (node x i r t) to (i + size x) out out' z) (sym u)
-        (subst (λ (x : List ℕ). LaidAt x (node g (i + 1) (upto_of (get_or nums i 0 - 1)) true) to (i + (1 + size g)) out out' z)
-        (sym (ap₂ (λ (x y : Bool). when x 11 ++ (when y 12 ++ faults g true)) q (ne_eqb (get_or nums i 0) 0 b)))
+        (subst (λ (x : List Refusal). LaidAt x (node g (i + 1) (upto_of (get_or nums i 0 - 1)) true) to (i + (1 + size g)) out out' z)
+        (sym (ap₂ (λ (x y : Bool). when x NestedFor ++ (when y ZeroFor ++ faults g true)) q (ne_eqb (get_or nums i 0) 0 b)))
         (subst (λ (n : ℕ). LaidAt (faults g true) (node g (i + 1) (upto_of (get_or nums i 0 - 1)) true) to n out out' z) (omega arith)
         (subst (λ (x : AnchorRange). LaidAt (faults g true) (node g (i + 1) x true) to (i + 1 + size g) out out' z) e (p.is g v))));
   }
@@ -219,44 +218,44 @@ module _ (ops nums : List ℕ) (i : ℕ) (r : AnchorRange) (t : Bool) (g : 9 ≤
           shift = d.shift;
         }
 
-    module _ (left : Laid) (out₂ : List ℕ) (c : CompiledAt ops nums (i + 1) r t out₁ (to + 1) out₂ left) where
-      left_upto : (m b : ℕ) → left ≡ Upto m b → (l : Formula) → Spells (node_at ops nums) (i + 1) l
-          → (faults l t ≡ []) × (m ≡ to + 1 + count (node l (i + 1) r t)) × (b ≡ i + 1 + size l) × (out₂ ≡ sets out₁ (7 * (to + 1)) (rows (node l (i + 1) r t)))
-      left_upto m b q l s = laid_upto (faults l t) (node l (i + 1) r t) (to + 1) (i + 1 + size l) m b out₁ out₂ left (c.is l s) q
+    module _ (left : Returned Laid Refusal) (out₂ : List ℕ) (c : CompiledAt ops nums (i + 1) r t out₁ (to + 1) out₂ left) where
+      left_upto : (p : Laid) → left ≡ Ok p → (l : Formula) → Spells (node_at ops nums) (i + 1) l
+          → (faults l t ≡ []) × (p.rows ≡ to + 1 + count (node l (i + 1) r t)) × (p.end ≡ i + 1 + size l) × (out₂ ≡ sets out₁ (7 * (to + 1)) (rows (node l (i + 1) r t)))
+      left_upto p q l s = laid_upto (faults l t) (node l (i + 1) r t) (to + 1) (i + 1 + size l) p out₁ out₂ left (c.is l s) q
 
-      pub pair_refused : (k : ℕ) → left ≡ Refused k → CompiledAt ops nums i r t out to out₂ left
+      pub pair_refused : (k : Refusal) → left ≡ Err k → CompiledAt ops nums i r t out to out₂ left
       pair_refused k q = record {
         is = λ f s.
             let j = joins f s in
             let l = j.left in
             let (ns, e) = laid_no (faults l t) (node l (i + 1) r t) (to + 1) (i + 1 + size l) k out₁ out₂ left (c.is l j.left_spells) q in
-            laid_refused _ _ _ _ _ _ _ k (ns ++ faults j.right t) (j.refusals ∙ ap (λ (x : List ℕ). x ++ faults j.right t) e) q;
+            laid_refused _ _ _ _ _ _ _ k (ns ++ faults j.right t) (j.refusals ∙ ap (λ (x : List Refusal). x ++ faults j.right t) e) q;
       }
 
-      module _ (m b : ℕ) (q : left ≡ Upto m b) where
-        pub ready_right : CompileReady ops nums i r out to → CompileReady ops nums b r out₂ m
+      module _ (p : Laid) (q : left ≡ Ok p) where
+        pub ready_right : CompileReady ops nums i r out to → CompileReady ops nums p.end r out₂ p.rows
         ready_right d =
-            let p = d.place in
-            let j = joins p.formula p.spells in
-            let (v, x, y, w) = left_upto m b q j.left j.left_spells in
+            let at = d.place in
+            let j = joins at.formula at.spells in
+            let (v, x, y, w) = left_upto p q j.left j.left_spells in
             let z : length out₂ ≡ length out = ap length w ∙ length-sets out₁ (7 * (to + 1)) (rows (node j.left (i + 1) r t)) ∙ ap length e₁ ∙ length-sets out (7 * to) (node_row n) in
             let k : count (node j.left (i + 1) r t) ≤ size j.left = count_size j.left (i + 1) r t in
             record {
-              place = record { formula = j.right; spells = subst (λ (o : ℕ). Spells (node_at ops nums) o j.right) (sym y) j.right_spells; in_ops = omega (arith, p.in_ops, j.sized); in_nums = omega (arith, p.in_nums, j.sized) };
+              place = record { formula = j.right; spells = subst (λ (o : ℕ). Spells (node_at ops nums) o j.right) (sym y) j.right_spells; in_ops = omega (arith, at.in_ops, j.sized); in_nums = omega (arith, at.in_nums, j.sized) };
               room = omega (arith, d.room, j.sized);
               shift = d.shift;
             }
 
-        pub falls_right : (μ : ℕ) → CompileReady ops nums i r out to → 2 * (length ops - i) ≡ μ → 2 * (length ops - b) + 1 < μ
+        pub falls_right : (μ : ℕ) → CompileReady ops nums i r out to → 2 * (length ops - i) ≡ μ → 2 * (length ops - p.end) + 1 < μ
         falls_right μ d o =
-            let p = d.place in
-            let j = joins p.formula p.spells in
-            let y : b ≡ i + 1 + size j.left = (left_upto m b q j.left j.left_spells).2 in
-            omega (arith, in_ops ops nums i p)
+            let at = d.place in
+            let j = joins at.formula at.spells in
+            let y : p.end ≡ i + 1 + size j.left = (left_upto p q j.left j.left_spells).2 in
+            omega (arith, in_ops ops nums i at)
 
         -- three runs of stores are one
-        three : (l c' : Formula) (out₃ : List ℕ) → m ≡ to + 1 + count (node l (i + 1) r t) → out₂ ≡ sets out₁ (7 * (to + 1)) (rows (node l (i + 1) r t))
-            → out₃ ≡ sets out₂ (7 * m) (rows (node c' (i + 1 + size l) r t))
+        three : (l c' : Formula) (out₃ : List ℕ) → p.rows ≡ to + 1 + count (node l (i + 1) r t) → out₂ ≡ sets out₁ (7 * (to + 1)) (rows (node l (i + 1) r t))
+            → out₃ ≡ sets out₂ (7 * p.rows) (rows (node c' (i + 1 + size l) r t))
             → out₃ ≡ sets out (7 * to) (node_row (join_node (get_or ops i 0)) ++ rows (node l (i + 1) r t) ++ rows (node c' (i + 1 + size l) r t))
         three l c' out₃ x w u =
             let a = node_row n in
@@ -270,48 +269,48 @@ module _ (ops nums : List ℕ) (i : ℕ) (r : AnchorRange) (t : Bool) (g : 9 ≤
             ∙ sets_append out (7 * to) (a ++ y) z
             ∙ ap (λ (v : MonNode). sets out (7 * to) (node_row v ++ y ++ z)) e₀
 
-        module _ (f : Formula) (j : Joins ops nums i r t f) (v : faults j.left t ≡ []) (x : m ≡ to + 1 + count (node j.left (i + 1) r t)) (y : b ≡ i + 1 + size j.left) (w : out₂ ≡ sets out₁ (7 * (to + 1)) (rows (node j.left (i + 1) r t))) (out₃ : List ℕ) (z : Laid) where
-          onto : (fs : List ℕ) → faults j.right t ≡ fs → LaidAt fs (node j.right (i + 1 + size j.left) r t) m (b + size j.right) out₂ out₃ z
+        module _ (f : Formula) (j : Joins ops nums i r t f) (v : faults j.left t ≡ []) (x : p.rows ≡ to + 1 + count (node j.left (i + 1) r t)) (y : p.end ≡ i + 1 + size j.left) (w : out₂ ≡ sets out₁ (7 * (to + 1)) (rows (node j.left (i + 1) r t))) (out₃ : List ℕ) (z : Returned Laid Refusal) where
+          onto : (fs : List Refusal) → faults j.right t ≡ fs → LaidAt fs (node j.right (i + 1 + size j.left) r t) p.rows (p.end + size j.right) out₂ out₃ z
               → LaidAt (faults f t) (node f i r t) to (i + size f) out out₃ z
           onto [] e u =
-              subst (λ (k : List ℕ). LaidAt k (node f i r t) to (i + size f) out out₃ z) (sym (j.refusals ∙ ap₂ ◌++◌ v e)) (
-                u.0 ∙ ap₂ Upto (omega (arith, j.counted)) (omega (arith, j.sized)),
+              subst (λ (k : List Refusal). LaidAt k (node f i r t) to (i + size f) out out₃ z) (sym (j.refusals ∙ ap₂ ◌++◌ v e)) (
+                u.0 ∙ ap₂ (λ (x y : ℕ). Ok (laid_to x y)) (omega (arith, j.counted)) (omega (arith, j.sized)),
                 three j.left j.right out₃ x w u.1 ∙ ap (sets out (7 * to)) (sym j.rowed),
               )
           onto (k ∷ ks) e u = laid_refused _ _ _ _ _ _ _ k ks (j.refusals ∙ ap₂ ◌++◌ v e) u
 
-        pub pair_laid : (out₃ : List ℕ) (z : Laid) → CompiledAt ops nums b r t out₂ m out₃ z → CompiledAt ops nums i r t out to out₃ z
+        pub pair_laid : (out₃ : List ℕ) (z : Returned Laid Refusal) → CompiledAt ops nums p.end r t out₂ p.rows out₃ z → CompiledAt ops nums i r t out to out₃ z
         pair_laid out₃ z c' = record {
           is = λ f s.
               let j = joins f s in
-              let (v, x, y, w) = left_upto m b q j.left j.left_spells in
+              let (v, x, y, w) = left_upto p q j.left j.left_spells in
               onto f j v x y w out₃ z (faults j.right t) refl
-              (subst (λ (o : ℕ). LaidAt (faults j.right t) (node j.right o r t) m (b + size j.right) out₂ out₃ z) y
+              (subst (λ (o : ℕ). LaidAt (faults j.right t) (node j.right o r t) p.rows (p.end + size j.right) out₂ out₃ z) y
               (c'.is j.right (subst (λ (o : ℕ). Spells (node_at ops nums) o j.right) (sym y) j.right_spells)));
         }
 
 -- ---- eventually and until are the words that are left
 module _ (ops nums : List ℕ) (i : ℕ) (r : AnchorRange) (t : Bool) (out : List ℕ) (to : ℕ) where
-  pub eventually_refused : 3 ≤ get_or ops i 0 → get_or ops i 0 < 7 → (get_or ops i 0 ≡ 3 → ⊥) → (get_or ops i 0 ≡ 4 → ⊥) → (get_or ops i 0 ≡ 5 → ⊥) → CompiledAt ops nums i r t out to out (Refused 19)
+  pub eventually_refused : 3 ≤ get_or ops i 0 → get_or ops i 0 < 7 → (get_or ops i 0 ≡ 3 → ⊥) → (get_or ops i 0 ≡ 4 → ⊥) → (get_or ops i 0 ≡ 5 → ⊥) → CompiledAt ops nums i r t out to out (Err Liveness)
   unfolding faults
   eventually_refused g h h3 h4 h5 = record {
     is = λ f s.
         let e : get_or ops i 0 ≡ 6 = six (get_or ops i 0) g h h3 h4 h5 in
         let (x, u, v) = is_eventually ops nums i f s e in
-        laid_refused _ _ _ _ _ _ _ 19 [] (ap (λ (y : Formula). faults y t) u) refl;
+        laid_refused _ _ _ _ _ _ _ Liveness [] (ap (λ (y : Formula). faults y t) u) refl;
   }
     where
       six : (op : ℕ) → 3 ≤ op → op < 7 → (op ≡ 3 → ⊥) → (op ≡ 4 → ⊥) → (op ≡ 5 → ⊥) → op ≡ 6
       six op g h h3 h4 h5 = ⊎_elim (λ k. absurd (h3 (omega arith))) (λ k. ⊎_elim (λ k'. absurd (h4 (omega arith))) (λ k'. ⊎_elim (λ k''. absurd (h5 (omega arith))) (λ k''. omega arith) (below_or op 6)) (below_or op 5)) (below_or op 4)
 
-  pub until_refused : 11 ≤ get_or ops i 0 → (get_or ops i 0 ≡ 11 → ⊥) → CompiledAt ops nums i r t out to out (Refused 19)
+  pub until_refused : 11 ≤ get_or ops i 0 → (get_or ops i 0 ≡ 11 → ⊥) → CompiledAt ops nums i r t out to out (Err Liveness)
   unfolding faults node_at
   until_refused g h = record {
     is = λ f s.
         let (o, l, c, u, v, w, x) = two_there ops nums i f s (omega arith) in
         let e : get_or ops i 0 ≡ 12 = ⊎_elim (λ k. absurd (h (omega arith))) (λ k. twelve o (get_or ops i 0) (binary_number _ _ o u) k) (below_or (get_or ops i 0) 12) in
         let (l', c', u', v', w') = is_until ops nums i f s e in
-        laid_refused _ _ _ _ _ _ _ 19 [] (ap (λ (y : Formula). faults y t) u') refl;
+        laid_refused _ _ _ _ _ _ _ Liveness [] (ap (λ (y : Formula). faults y t) u') refl;
   }
     where
       twelve : (o : Binary) (op : ℕ) → op ≡ number_of (two_of o) → 12 ≤ op → op ≡ 12
@@ -319,7 +318,3 @@ module _ (ops nums : List ℕ) (i : ℕ) (r : AnchorRange) (t : Bool) (out : Lis
       twelve or op e k = absurd (omega arith)
       twelve implies op e k = absurd (omega arith)
       twelve until op e k = e
-
--- the numbers that are left for and, or
-pub from_joins : (op : ℕ) → 7 ≤ op → (op ≡ 7 → ⊥) → (op ≡ 8 → ⊥) → 9 ≤ op
-from_joins op g h7 h8 = ⊎_elim (λ k. absurd (h7 (omega arith))) (λ k. ⊎_elim (λ k'. absurd (h8 (omega arith))) (λ k'. k') (below_or op 9)) (below_or op 8)

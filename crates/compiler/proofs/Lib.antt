@@ -2,5 +2,4 @@
 pub mod Words
 pub mod Compiling
 pub mod Joining
-pub mod Copies
 pub mod Answering

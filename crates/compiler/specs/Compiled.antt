@@ -1,6 +1,5 @@
 -- What the compiler answers and leaves in the lent output.
 --     CompiledAt     the walk at one place
---     result_of       document 01's result of the answer enum
 --     compile_call    the whole call: document 01's result, the count of nodes, and the output afterwards
 use Rattle.std.specs.Prelude.{Bool, true, false, ◌&&◌, List, [], ◌∷◌, ◌≡◌, ℕ, ◌+◌, ◌*◌, ◌≤◌, leb, length, get_or}
 use Rattle.std.proofs.Math.Option.{Option, none, some}
@@ -8,18 +7,18 @@ use Rattle.std.proofs.lemmas.List.Edits.{sets}
 use Rattle.terms.specs.Limits.{node_cells, row_cells}
 use Rattle.terms.specs.Ops.{implies_op}
 use Rattle.result.specs.Result.{Result, given, refused}
+use Rattle.result.specs.Refusal.{number_of, told}
+use Rattle.result.specs.declared.Refusal.{Refusal}
 use Rattle.formula.specs.Tree.{size}
 use Rattle.formula.specs.Spells.{Spells}
 use Rattle.formula.specs.Formula.{Formula}
 use Rattle.formula.specs.Table.{node_at, Placed, rule_of, roomy}
 use Rattle.formula.specs.Pure.{pure, unless}
 use Rattle.formula.specs.Signal.{Purely}
-use Rattle.formula.specs.declared.table.Walk.TheVariants.{Upto as Ends}
+use Rattle.std.specs.Prelude.{Some, Ok, Err}
+use Rattle.std.specs.Prelude.{Result as Returned}
 use Rattle.monitor.specs.declared.range.AnchorRange.{AnchorRange}
 use Rattle.compiler.specs.declared.Laid.{Laid}
-use Rattle.compiler.specs.declared.Laid.TheVariants.{Upto, Refused}
-use Rattle.compiler.specs.declared.Compiled.{Compiled}
-use Rattle.compiler.specs.declared.Compiled.TheVariants.{Nodes, Refused as NotCompiled}
 use Rattle.monitor.specs.Range.{Shiftable}
 use Rattle.monitor.specs.declared.node.MonNode.{MonNode}
 use Rattle.monitor.specs.Mon.{Check, Mon, check, count, node_of, rows}
@@ -35,27 +34,25 @@ pub record CompileReady (ops nums : List ℕ) (i : ℕ) (r : AnchorRange) (out :
 pub record Implied (ops nums : List ℕ) (i j : ℕ) (r : AnchorRange) (out : List ℕ) (at : ℕ) : Type 0 where
   pub ready : CompileReady ops nums i r out at
   pub word : get_or ops i 0 ≡ implies_op
-  pub left : Purely ops nums (i + 1) (Ends j)
+  pub left : Purely ops nums (i + 1) (Some j)
+
+abbrev pub laid_to : ℕ → ℕ → Laid
+laid_to n e = record { rows = n; end = e }
 
 -- with no refusal: where the nodes and the formula end, and the nodes' rows from row `at` on. Else the first refusal
-abbrev pub LaidAt : List ℕ → Mon → ℕ → ℕ → List ℕ → List ℕ → Laid → Type 0
-LaidAt [] m at e out out' r = (r ≡ Upto (at + count m) e) × (out' ≡ sets out (row_cells * at) (rows m))
-LaidAt (n ∷ ns) m at e out out' r = r ≡ Refused n
+abbrev pub LaidAt : List Refusal → Mon → ℕ → ℕ → List ℕ → List ℕ → Returned Laid Refusal → Type 0
+LaidAt [] m at e out out' r = (r ≡ Ok (laid_to (at + count m) e)) × (out' ≡ sets out (row_cells * at) (rows m))
+LaidAt (n ∷ ns) m at e out out' r = r ≡ Err n
 
-pub record CompiledAt (ops nums : List ℕ) (i : ℕ) (range : AnchorRange) (temporal : Bool) (out : List ℕ) (at : ℕ) (out' : List ℕ) (r : Laid) : Type 0 where
+pub record CompiledAt (ops nums : List ℕ) (i : ℕ) (range : AnchorRange) (temporal : Bool) (out : List ℕ) (at : ℕ) (out' : List ℕ) (r : Returned Laid Refusal) : Type 0 where
   pub is : (f : Formula) → Spells (node_at ops nums) i f → LaidAt (faults f temporal) (node f i range temporal) at (i + size f) out out' r
 
 -- one check stored, where the formula at p, with which the check's own ends, is pure; else refusal n
-pub record CheckLaid (ops nums : List ℕ) (p n : ℕ) (out : List ℕ) (at : ℕ) (row : MonNode) (out' : List ℕ) (r : Laid) : Type 0 where
+pub record CheckLaid (ops nums : List ℕ) (p : ℕ) (n : Refusal) (out : List ℕ) (at : ℕ) (row : MonNode) (out' : List ℕ) (r : Returned Laid Refusal) : Type 0 where
   pub is : (c : Check) → row ≡ node_of c → (g : Formula) → Spells (node_at ops nums) p g
       → LaidAt (unless (pure g) n) (check c) at (p + size g) out out' r
 
 -- ---- the whole call
--- document 01's result of an answer: the count of nodes, or the refusal
-abbrev pub result_of : Compiled → Result ℕ
-result_of (Nodes n) = given n
-result_of (NotCompiled n) = refused n
-
 pub record Call : Type 0 where
   pub answer : Result ℕ
   pub out : List ℕ
@@ -64,9 +61,9 @@ abbrev pub refuse : ℕ → List ℕ → Call
 refuse n out = record { answer = refused n; out = out }
 
 -- the first refusal of the walk, or the nodes from the output's start on; what lies behind them stays
-abbrev pub first_or : List ℕ → Mon → List ℕ → Call
+abbrev pub first_or : List Refusal → Mon → List ℕ → Call
 first_or [] m out = record { answer = given (count m); out = sets out 0 (rows m) }
-first_or (n ∷ ns) m out = refuse n out
+first_or (n ∷ ns) m out = refuse (number_of n) out
 
 abbrev pub compile_formula : Option Formula → ℕ → List ℕ → Call
 compile_formula none first out = refuse 2 out
@@ -85,10 +82,6 @@ compile_call ops nums first count out =
     or_short (roomy ops nums && leb node_cells (length out)) out (rule_call ops nums first count out)
 
 -- the answer and the output afterwards are those of the call
-pub record Answers (c : Call) (r : Compiled) (out : List ℕ) : Type 0 where
-  pub answers : result_of r ≡ c.answer
+pub record Answers (c : Call) (r : Returned ℕ Refusal) (out : List ℕ) : Type 0 where
+  pub answers : told r ≡ c.answer
   pub leaves : out ≡ c.out
-
-abbrev pub refused_as : Laid → Compiled
-refused_as (Refused n) = NotCompiled n
-refused_as (Upto n e) = NotCompiled 0

@@ -9,106 +9,103 @@ ghost use Rattle.formula.specs.Table.{IsRule, Placed};
 ghost use Rattle.monitor.specs.Table.{NodeNumbered};
 ghost use Rattle.monitor.specs.Compile.{anchor};
 ghost use Rattle.monitor.specs.Mon.{node_row, join_node};
-ghost use Rattle.compiler.specs.Compiled.{CompileReady, Implied, CheckLaid, CompiledAt, Answers, rule_call, compile_call, refused_as};
+ghost use Rattle.compiler.specs.Compiled.{CompileReady, Implied, CheckLaid, CompiledAt, Answers, laid_to, rule_call, compile_call};
 
-use formula::signal::boolean_over_atoms;
-use formula::table::{Walk, is_roomy, is_rule};
+use formula::table::FormulaTable;
 use monitor::node::{MonNode, SignalExpr, put_node};
 use monitor::range::AnchorRange;
+use result::Refusal;
 use terms::limit::{NODE_CELLS, ROW_CELLS};
 use terms::op::{ALWAYS, ALWAYS_FOR, AND, IMPLIES, IN, NEXT, NOT, OR, OUT, VAR, WITHIN};
 
-// Where a walk's nodes and its formula end, or the refusal.
-#[derive(Clone, Copy)]
-pub enum Laid {
-    Upto(usize, usize),
-    Refused(u64),
+// The row at which a walk's nodes end, and the place at which its formula does.
+#[derive(Clone, Copy, Debug, PartialEq, Eq)]
+pub struct Laid {
+    pub rows: usize,
+    pub end: usize,
 }
 
 // Stores one check, of a formula that ends at e.
 fn lay(out: &mut [u64], at: usize, node: MonNode, e: usize) -> Laid
     requires { (row_cells * (at + 1) ≤ length out.old) × NodeNumbered node }
-    ensures { (result ≡ Laid.Upto (at + 1) e) × (out.new ≡ sets out.old (row_cells * at) (node_row node)) }
+    ensures { (result ≡ laid_to (at + 1) e) × (out.new ≡ sets out.old (row_cells * at) (node_row node)) }
 {
     put_node(out, at, node);
-    Laid::Upto(at + 1, e)
+    Laid {
+        rows: at + 1,
+        end: e,
+    }
 }
 
 // Stores one check, if the formula at p, with which the check's own ends, is pure; else refuses.
 fn lay_if_pure(
-    ops: &[u8],
-    nums: &[u64],
+    table: &FormulaTable,
     p: usize,
-    refusal: u64,
+    refusal: Refusal,
     out: &mut [u64],
     at: usize,
     node: MonNode,
-) -> Laid
-    requires { Placed ops.now nums.now p × (row_cells * (at + 1) ≤ length out.old) × NodeNumbered node }
-    ensures { CheckLaid ops.now nums.now p refusal out.old at node out.new result }
+) -> Result<Laid, Refusal>
+    requires { Placed table.now.ops.now table.now.nums.now p × (row_cells * (at + 1) ≤ length out.old) × NodeNumbered node }
+    ensures { CheckLaid table.now.ops.now table.now.nums.now p refusal out.old at node out.new result }
 {
-    let Walk::Upto(e) = boolean_over_atoms(ops, nums, p) else {
-        return Laid::Refused(refusal);
-    };
-    lay(out, at, node, e)
+    let e = table.boolean_over_atoms(p).ok_or(refusal)?;
+    Ok(lay(out, at, node, e))
 }
 
 // An atom: a check at its range.
 fn compile_atom(
-    ops: &[u8],
-    nums: &[u64],
+    table: &FormulaTable,
     i: usize,
     range: AnchorRange,
     temporal: bool,
     out: &mut [u64],
     at: usize,
-) -> Laid
-    requires { CompileReady ops.now nums.now i range out.old at × (get_or ops.now i 0 < not_op) }
-    ensures { CompiledAt ops.now nums.now i range temporal out.old at out.new result }
+) -> Result<Laid, Refusal>
+    requires { CompileReady table.now.ops.now table.now.nums.now i range out.old at × (get_or table.now.ops.now i 0 < not_op) }
+    ensures { CompiledAt table.now.ops.now table.now.nums.now i range temporal out.old at out.new result }
 {
     let node = MonNode::RangeCheck {
         expr: SignalExpr::At(i),
         range,
     };
-    lay(out, at, node, i + 1)
+    Ok(lay(out, at, node, i + 1))
 }
 
 fn compile_not(
-    ops: &[u8],
-    nums: &[u64],
+    table: &FormulaTable,
     i: usize,
     range: AnchorRange,
     temporal: bool,
     out: &mut [u64],
     at: usize,
-) -> Laid
-    requires { CompileReady ops.now nums.now i range out.old at × (get_or ops.now i 0 ≡ not_op) }
-    ensures { CompiledAt ops.now nums.now i range temporal out.old at out.new result }
+) -> Result<Laid, Refusal>
+    requires { CompileReady table.now.ops.now table.now.nums.now i range out.old at × (get_or table.now.ops.now i 0 ≡ not_op) }
+    ensures { CompiledAt table.now.ops.now table.now.nums.now i range temporal out.old at out.new result }
 {
     let node = MonNode::RangeCheck {
         expr: SignalExpr::At(i),
         range,
     };
-    lay_if_pure(ops, nums, i + 1, 18, out, at, node)
+    lay_if_pure(table, i + 1, Refusal::NotOperand, out, at, node)
 }
 
 fn compile_next(
-    ops: &[u8],
-    nums: &[u64],
+    table: &FormulaTable,
     i: usize,
     range: AnchorRange,
     temporal: bool,
     out: &mut [u64],
     at: usize,
-) -> Laid
-    requires { CompileReady ops.now nums.now i range out.old at × (get_or ops.now i 0 ≡ next_op) }
-    ensures { CompiledAt ops.now nums.now i range temporal out.old at out.new result }
+) -> Result<Laid, Refusal>
+    requires { CompileReady table.now.ops.now table.now.nums.now i range out.old at × (get_or table.now.ops.now i 0 ≡ next_op) }
+    ensures { CompiledAt table.now.ops.now table.now.nums.now i range temporal out.old at out.new result }
 {
     let node = MonNode::RangeCheck {
         expr: SignalExpr::At(i + 1),
         range: range.shifted(),
     };
-    lay_if_pure(ops, nums, i + 1, 17, out, at, node)
+    lay_if_pure(table, i + 1, Refusal::NextOperand, out, at, node)
 }
 
 // A `within` that is not under a temporal operator has range 0 to 0.
@@ -116,267 +113,229 @@ fn anchored(temporal: bool, range: AnchorRange) -> AnchorRange
     ensures { result ≡ anchor temporal range }
 {
     if temporal {
-        return range;
+        range
+    } else {
+        AnchorRange::upto(0)
     }
-    AnchorRange::upto(0)
 }
 
 fn compile_within(
-    ops: &[u8],
-    nums: &[u64],
+    table: &FormulaTable,
     i: usize,
     range: AnchorRange,
     temporal: bool,
     out: &mut [u64],
     at: usize,
-) -> Laid
-    requires { CompileReady ops.now nums.now i range out.old at × (get_or ops.now i 0 ≡ within_op) }
-    ensures { CompiledAt ops.now nums.now i range temporal out.old at out.new result }
+) -> Result<Laid, Refusal>
+    requires { CompileReady table.now.ops.now table.now.nums.now i range out.old at × (get_or table.now.ops.now i 0 ≡ within_op) }
+    ensures { CompiledAt table.now.ops.now table.now.nums.now i range temporal out.old at out.new result }
 {
     let node = MonNode::Obligation {
-        bound: nums[i],
+        bound: table.nums[i],
         trigger: SignalExpr::True,
         body: SignalExpr::At(i + 1),
         range: anchored(temporal, range),
     };
-    lay_if_pure(ops, nums, i + 1, 14, out, at, node)
+    lay_if_pure(table, i + 1, Refusal::WithinOperand, out, at, node)
 }
 
 // `l implies within b f`: the right part stands at j.
 fn compile_owed(
-    ops: &[u8],
-    nums: &[u64],
+    table: &FormulaTable,
     i: usize,
     j: usize,
     range: AnchorRange,
     temporal: bool,
     out: &mut [u64],
     at: usize,
-) -> Laid
-    requires { Implied ops.now nums.now i j range out.old at × (get_or ops.now j 0 ≡ within_op) }
-    ensures { CompiledAt ops.now nums.now i range temporal out.old at out.new result }
+) -> Result<Laid, Refusal>
+    requires { Implied table.now.ops.now table.now.nums.now i j range out.old at × (get_or table.now.ops.now j 0 ≡ within_op) }
+    ensures { CompiledAt table.now.ops.now table.now.nums.now i range temporal out.old at out.new result }
 {
     let node = MonNode::Obligation {
-        bound: nums[j],
+        bound: table.nums[j],
         trigger: SignalExpr::At(i + 1),
         body: SignalExpr::At(j + 1),
         range: anchored(temporal, range),
     };
-    lay_if_pure(ops, nums, j + 1, 14, out, at, node)
+    lay_if_pure(table, j + 1, Refusal::WithinOperand, out, at, node)
 }
 
 // `l implies next f`.
 fn compile_delayed(
-    ops: &[u8],
-    nums: &[u64],
+    table: &FormulaTable,
     i: usize,
     j: usize,
     range: AnchorRange,
     temporal: bool,
     out: &mut [u64],
     at: usize,
-) -> Laid
-    requires { Implied ops.now nums.now i j range out.old at × (get_or ops.now j 0 ≡ next_op) }
-    ensures { CompiledAt ops.now nums.now i range temporal out.old at out.new result }
+) -> Result<Laid, Refusal>
+    requires { Implied table.now.ops.now table.now.nums.now i j range out.old at × (get_or table.now.ops.now j 0 ≡ next_op) }
+    ensures { CompiledAt table.now.ops.now table.now.nums.now i range temporal out.old at out.new result }
 {
     let node = MonNode::DelayedCheck {
         antecedent: SignalExpr::At(i + 1),
         consequent: SignalExpr::At(j + 1),
         range: range.shifted(),
     };
-    lay_if_pure(ops, nums, j + 1, 15, out, at, node)
+    lay_if_pure(table, j + 1, Refusal::NextConsequent, out, at, node)
 }
 
 // A pure implication is itself the signal of its check.
 fn compile_pure_implies(
-    ops: &[u8],
-    nums: &[u64],
+    table: &FormulaTable,
     i: usize,
     j: usize,
     range: AnchorRange,
     temporal: bool,
     out: &mut [u64],
     at: usize,
-) -> Laid
-    requires { Implied ops.now nums.now i j range out.old at × (get_or ops.now j 0 ≡ within_op → ⊥) × (get_or ops.now j 0 ≡ next_op → ⊥) }
-    ensures { CompiledAt ops.now nums.now i range temporal out.old at out.new result }
+) -> Result<Laid, Refusal>
+    requires { Implied table.now.ops.now table.now.nums.now i j range out.old at × (get_or table.now.ops.now j 0 ≡ within_op → ⊥) × (get_or table.now.ops.now j 0 ≡ next_op → ⊥) }
+    ensures { CompiledAt table.now.ops.now table.now.nums.now i range temporal out.old at out.new result }
 {
     let node = MonNode::RangeCheck {
         expr: SignalExpr::At(i),
         range,
     };
-    lay_if_pure(ops, nums, j, 16, out, at, node)
+    lay_if_pure(table, j, Refusal::Consequent, out, at, node)
 }
 
 fn compile_implies(
-    ops: &[u8],
-    nums: &[u64],
+    table: &FormulaTable,
     i: usize,
     range: AnchorRange,
     temporal: bool,
     out: &mut [u64],
     at: usize,
-) -> Laid
-    requires { CompileReady ops.now nums.now i range out.old at × (get_or ops.now i 0 ≡ implies_op) }
-    ensures { CompiledAt ops.now nums.now i range temporal out.old at out.new result }
+) -> Result<Laid, Refusal>
+    requires { CompileReady table.now.ops.now table.now.nums.now i range out.old at × (get_or table.now.ops.now i 0 ≡ implies_op) }
+    ensures { CompiledAt table.now.ops.now table.now.nums.now i range temporal out.old at out.new result }
 {
-    let Walk::Upto(j) = boolean_over_atoms(ops, nums, i + 1) else {
-        return Laid::Refused(13);
-    };
-    let op = ops[j];
+    let j = table.boolean_over_atoms(i + 1).ok_or(Refusal::Antecedent)?;
+    let op = table.ops[j];
     if op == WITHIN {
-        return compile_owed(ops, nums, i, j, range, temporal, out, at);
+        return compile_owed(table, i, j, range, temporal, out, at);
     }
     if op == NEXT {
-        return compile_delayed(ops, nums, i, j, range, temporal, out, at);
+        return compile_delayed(table, i, j, range, temporal, out, at);
     }
-    compile_pure_implies(ops, nums, i, j, range, temporal, out, at)
+    compile_pure_implies(table, i, j, range, temporal, out, at)
 }
 
 // The node that joins two parts.
 fn join_node(op: u8) -> MonNode
     ensures { result ≡ join_node op }
 {
-    if op < OR {
-        return MonNode::And;
-    }
-    MonNode::Or
+    if op < OR { MonNode::And } else { MonNode::Or }
 }
 
 // Two parts joined: the node, then the left part's nodes, then the right's.
 #[cycle(compile_always_for_compile_check_compile_pair)]
 fn compile_pair(
-    ops: &[u8],
-    nums: &[u64],
+    table: &FormulaTable,
     i: usize,
     range: AnchorRange,
     temporal: bool,
     out: &mut [u64],
     at: usize,
-) -> Laid
-    requires { CompileReady ops.now nums.now i range out.old at × (and_op ≤ get_or ops.now i 0) × (get_or ops.now i 0 < implies_op) }
-    ensures { CompiledAt ops.now nums.now i range temporal out.old at out.new result }
+) -> Result<Laid, Refusal>
+    requires { CompileReady table.now.ops.now table.now.nums.now i range out.old at × (and_op ≤ get_or table.now.ops.now i 0) × (get_or table.now.ops.now i 0 < implies_op) }
+    ensures { CompiledAt table.now.ops.now table.now.nums.now i range temporal out.old at out.new result }
 {
-    put_node(out, at, join_node(ops[i]));
-    let left = compile_check(ops, nums, i + 1, range, temporal, out, at + 1);
-    let Laid::Upto(n, j) = left else {
+    put_node(out, at, join_node(table.ops[i]));
+    let left = compile_check(table, i + 1, range, temporal, out, at + 1);
+    let Ok(laid) = left else {
         return left;
     };
-    compile_check(ops, nums, j, range, temporal, out, n)
+    compile_check(table, laid.end, range, temporal, out, laid.rows)
 }
 
 // `always-for` is not allowed under a temporal operator, nor with bound 0.
 #[cycle(compile_always_for_compile_check_compile_pair)]
 fn compile_always_for(
-    ops: &[u8],
-    nums: &[u64],
+    table: &FormulaTable,
     i: usize,
     range: AnchorRange,
     temporal: bool,
     out: &mut [u64],
     at: usize,
-) -> Laid
-    requires { CompileReady ops.now nums.now i range out.old at × (get_or ops.now i 0 ≡ always_for_op) }
-    ensures { CompiledAt ops.now nums.now i range temporal out.old at out.new result }
+) -> Result<Laid, Refusal>
+    requires { CompileReady table.now.ops.now table.now.nums.now i range out.old at × (get_or table.now.ops.now i 0 ≡ always_for_op) }
+    ensures { CompiledAt table.now.ops.now table.now.nums.now i range temporal out.old at out.new result }
 {
     if temporal {
-        return Laid::Refused(11);
+        return Err(Refusal::NestedFor);
     }
-    let b = nums[i];
+    let b = table.nums[i];
     if b == 0 {
-        return Laid::Refused(12);
+        return Err(Refusal::ZeroFor);
     }
-    compile_check(ops, nums, i + 1, AnchorRange::upto(b - 1), true, out, at)
+    compile_check(table, i + 1, AnchorRange::upto(b - 1), true, out, at)
 }
 
 // The formula at i, checked at the steps of the range. Its nodes go to row `at` and on.
 #[cycle(compile_always_for_compile_check_compile_pair)]
 fn compile_check(
-    ops: &[u8],
-    nums: &[u64],
+    table: &FormulaTable,
     i: usize,
     range: AnchorRange,
     temporal: bool,
     out: &mut [u64],
     at: usize,
-) -> Laid
-    requires { CompileReady ops.now nums.now i range out.old at }
-    ensures { CompiledAt ops.now nums.now i range temporal out.old at out.new result }
+) -> Result<Laid, Refusal>
+    requires { CompileReady table.now.ops.now table.now.nums.now i range out.old at }
+    ensures { CompiledAt table.now.ops.now table.now.nums.now i range temporal out.old at out.new result }
 {
-    match ops[i] {
-        VAR | IN | OUT => compile_atom(ops, nums, i, range, temporal, out, at),
-        NOT => compile_not(ops, nums, i, range, temporal, out, at),
-        NEXT => compile_next(ops, nums, i, range, temporal, out, at),
-        ALWAYS => compile_check(ops, nums, i + 1, range, true, out, at),
-        ALWAYS_FOR => compile_always_for(ops, nums, i, range, temporal, out, at),
-        WITHIN => compile_within(ops, nums, i, range, temporal, out, at),
-        AND | OR => compile_pair(ops, nums, i, range, temporal, out, at),
-        IMPLIES => compile_implies(ops, nums, i, range, temporal, out, at),
-        _ => Laid::Refused(19),
+    match table.ops[i] {
+        VAR | IN | OUT => compile_atom(table, i, range, temporal, out, at),
+        NOT => compile_not(table, i, range, temporal, out, at),
+        NEXT => compile_next(table, i, range, temporal, out, at),
+        ALWAYS => compile_check(table, i + 1, range, true, out, at),
+        ALWAYS_FOR => compile_always_for(table, i, range, temporal, out, at),
+        WITHIN => compile_within(table, i, range, temporal, out, at),
+        AND | OR => compile_pair(table, i, range, temporal, out, at),
+        IMPLIES => compile_implies(table, i, range, temporal, out, at),
+        _ => Err(Refusal::Liveness),
     }
-}
-
-// Copies the first n numbers.
-fn copy(from: &[u64], to: &mut [u64], n: usize)
-    requires { (n ≤ length from.now) × (n ≤ length to.old) }
-    ensures { to.new ≡ sets to.old 0 (take n from.now) }
-{
-    let mut i = 0;
-    while i < n {
-        to[i] = from[i];
-        i += 1;
-    }
-}
-
-// The count of a rule's nodes, or the refusal.
-#[derive(Clone, Copy)]
-pub enum Compiled {
-    Nodes(usize),
-    Refused(u64),
 }
 
 // A rule that is a formula within the limits. Its nodes are laid aside first, so that a refusal leaves the output as it was.
-fn compile_rule(ops: &[u8], nums: &[u64], first: usize, count: usize, out: &mut [u64]) -> Compiled
-    requires { IsRule ops.now nums.now first count × (node_cells ≤ length out.old) }
-    ensures { Answers (rule_call ops.now nums.now first count out.old) result out.new }
-{
-    let mut aside = [0u64; NODE_CELLS];
-    let laid = compile_check(ops, nums, first, AnchorRange::all(), false, &mut aside, 0);
-    let Laid::Upto(n, _) = laid else {
-        return refused(laid);
-    };
-    copy(&aside, out, ROW_CELLS * n);
-    Compiled::Nodes(n)
-}
-
-// Compiles the rule of `count` nodes at `first` into the rows of `out`.
-pub fn compile_formula(
-    ops: &[u8],
-    nums: &[u64],
+fn compile_rule(
+    table: &FormulaTable,
     first: usize,
     count: usize,
     out: &mut [u64],
-) -> Compiled
-    ensures { Answers (compile_call ops.now nums.now first count out.old) result out.new }
+) -> Result<usize, Refusal>
+    requires { IsRule table.now.ops.now table.now.nums.now first count × (node_cells ≤ length out.old) }
+    ensures { Answers (rule_call table.now.ops.now table.now.nums.now first count out.old) result out.new }
 {
-    if out.len() < NODE_CELLS {
-        return Compiled::Refused(1);
-    }
-    if is_roomy(ops, nums) {
-        if is_rule(ops, nums, first, count) {
-            return compile_rule(ops, nums, first, count, out);
-        }
-        return Compiled::Refused(2);
-    }
-    Compiled::Refused(1)
+    let mut aside = [0u64; NODE_CELLS];
+    let laid = compile_check(table, first, AnchorRange::all(), false, &mut aside, 0)?;
+    let cells = ROW_CELLS * laid.rows;
+    out[..cells].copy_from_slice(&aside[..cells]);
+    Ok(laid.rows)
 }
 
-// The refusal of a walk.
-fn refused(laid: Laid) -> Compiled
-    ensures { result ≡ refused_as laid }
+// Compiles the rule of `count` nodes at `first` into the rows of `out`, and answers how many they are.
+#[tactic(auto, unfolding(crate::specs::Compiled::compile_call))]
+pub fn compile_formula(
+    table: &FormulaTable,
+    first: usize,
+    count: usize,
+    out: &mut [u64],
+) -> Result<usize, Refusal>
+    ensures { Answers (compile_call table.now.ops.now table.now.nums.now first count out.old) result out.new }
 {
-    match laid {
-        Laid::Refused(n) => Compiled::Refused(n),
-        Laid::Upto(_, _) => Compiled::Refused(0),
+    if out.len() < NODE_CELLS {
+        return Err(Refusal::Short);
     }
+    if !table.is_roomy() {
+        return Err(Refusal::Short);
+    }
+    if !table.is_rule(first, count) {
+        return Err(Refusal::Unfit);
+    }
+    compile_rule(table, first, count, out)
 }

@@ -32,7 +32,7 @@ use Rattle.monitor.specs.declared.node.SignalExpr.{SignalExpr}
 use Rattle.monitor.specs.declared.node.SignalExpr.TheVariants.{True, At}
 use Rattle.monitor.specs.declared.node.MonNode.{MonNode}
 use Rattle.monitor.specs.declared.node.MonNode.TheVariants.{RangeCheck, DelayedCheck, Obligation, And as AndNode, Or as OrNode}
-use Rattle.monitor.specs.declared.node.Row.TheVariants.{Node}
+use Rattle.std.specs.Prelude.{Some}
 use Rattle.monitor.specs.Range.{all_of, upto_of}
 use Rattle.monitor.specs.Mon.{Signal, always_true, at, Check, range_check, delayed_check, obligation, Mon, check, And, Or, count, expr_number, has_last, last_of, expr_of, node_row, node_of, rows}
 use Rattle.monitor.specs.Table.{expr_from, range_from, form_at, row_of, sub_at, pure_signal, signal_of, Never, Join, join_and, join_or, checked, cell_of, cell_by, cells, from_tree, compiled_of}
@@ -41,6 +41,9 @@ use Rattle.monitor.proofs.Rows.{expr_zero, expr_some, row_range, row_delayed, ro
 use Rattle.monitor.proofs.Parts.{no_part}
 use Rattle.monitor.proofs.HeldTree.{held}
 use Rattle.result.specs.Result.{given, refused}
+use Rattle.result.specs.Refusal.{number_of}
+use Rattle.result.specs.declared.Refusal.{Refusal}
+use Rattle.result.specs.declared.Refusal.TheVariants.{NestedFor, ZeroFor, Antecedent, WithinOperand, NextConsequent, Consequent, NextOperand, NotOperand}
 use Rattle.compiler.specs.Compiled.{first_or, compile_formula, or_short, compile_call}
 use Rattle.compiler.proofs.Joining.{count_size, rows_length}
 
@@ -93,7 +96,7 @@ module _ (nodes : List ℕ) (i : ℕ) where
   form_read : (n : MonNode) → Stored nodes (7 * i) (node_row n) → 0 < length (node_row n) → form_at nodes i ≡ get_or (node_row n) 0 0
   form_read n s h = ap (λ (k : ℕ). get_or nodes k 0) (sym (add-zero (7 * i))) ∙ s 0 h
 
-  row_read : (n : MonNode) → Stored nodes (7 * i) (node_row n) → row_of nodes i ≡ Node n
+  row_read : (n : MonNode) → Stored nodes (7 * i) (node_row n) → row_of nodes i ≡ Some n
   row_read (RangeCheck e r) s = sym (row_range nodes i r e True
       (range_read r _ _ _ (s 2 (omega arith)) (s 3 (omega arith)) (s 4 (omega arith)))
       (expr_read e _ (s 5 (omega arith)))
@@ -110,7 +113,7 @@ module _ (nodes : List ℕ) (i : ℕ) where
       (expr_read d _ (s 6 (omega arith)))
       (omega (arith, form_read (Obligation b e d r) s (omega arith)))
       (omega (arith, form_read (Obligation b e d r) s (omega arith))))
-      ∙ ap (λ (x : ℕ). Node (Obligation x e d r)) (s 1 (omega arith))
+      ∙ ap (λ (x : ℕ). Some (Obligation x e d r)) (s 1 (omega arith))
   row_read AndNode s = sym (row_and nodes i (omega (arith, form_read AndNode s (omega arith))) (omega (arith, form_read AndNode s (omega arith))))
   row_read OrNode s = sym (row_or nodes i (omega (arith, form_read OrNode s (omega arith))) (omega (arith, form_read OrNode s (omega arith))))
 
@@ -197,45 +200,45 @@ module _ (f : Formula) (first : ℕ) where
   signal_read (at p g) h =
       ap₂ (λ (b : Bool) (o : Option Formula). keep b (pure_signal p o)) (le-leb first p h.0.from) h.0.is ∙ pure_read p g h.1
 
-  check_read : (c : Check) → SeenCheck c → cell_of f first (Node (node_of c)) ≡ leaf_of c
+  check_read : (c : Check) → SeenCheck c → cell_of f first (Some (node_of c)) ≡ leaf_of c
   check_read (range_check s r) h = ap (checked (λ x. leaf_of (range_check x r))) (signal_read s h)
   check_read (delayed_check s t r) h =
       ap₂ (λ (a b : Option Signal). checked (λ x. checked (λ y. leaf_of (delayed_check x y r)) b) a) (signal_read s h.0) (signal_read t h.1)
   check_read (obligation b s t r) h =
       ap₂ (λ (a c : Option Signal). checked (λ x. checked (λ y. leaf_of (obligation b x y r)) c) a) (signal_read s h.0) (signal_read t h.1)
 
-  both_pure : (l c : Formula) → pure l ≡ true → unless (pure c) 16 ≡ [] → (pure l && pure c) ≡ true
-  both_pure l c p q = ap₂ ◌&&◌ p (unless_nil (pure c) 16 q)
+  both_pure : (l c : Formula) → pure l ≡ true → unless (pure c) Consequent ≡ [] → (pure l && pure c) ≡ true
+  both_pure l c p q = ap₂ ◌&&◌ p (unless_nil (pure c) Consequent q)
 
   implies_seen : (l c : Formula) (i : ℕ) (r : AnchorRange) (t : Bool) → Here i (two implies l c) → pure l ≡ true → consequent c ≡ [] → SeenCheck (implication l c i (i + 1 + size l) r t)
   unfolding implication consequent pure
   implies_seen l (leaf a) i r t p q e = (p, both_pure l (leaf a) q e)
   implies_seen l (one not x) i r t p q e = (p, both_pure l (one not x) q e)
   implies_seen l (one next x) i r t p q e =
-      ((here_left i implies l (one next x) p, q), (here_one (i + 1 + size l) next x (here_right i implies l (one next x) p), unless_nil (pure x) 15 e))
+      ((here_left i implies l (one next x) p, q), (here_one (i + 1 + size l) next x (here_right i implies l (one next x) p), unless_nil (pure x) NextConsequent e))
   implies_seen l (one always x) i r t p q e = (p, both_pure l (one always x) q e)
   implies_seen l (one eventually x) i r t p q e = (p, both_pure l (one eventually x) q e)
   implies_seen l (one (always_for b) x) i r t p q e = (p, both_pure l (one (always_for b) x) q e)
   implies_seen l (one (within b) x) i r t p q e =
-      ((here_left i implies l (one (within b) x) p, q), (here_one (i + 1 + size l) (within b) x (here_right i implies l (one (within b) x) p), unless_nil (pure x) 14 e))
+      ((here_left i implies l (one (within b) x) p, q), (here_one (i + 1 + size l) (within b) x (here_right i implies l (one (within b) x) p), unless_nil (pure x) WithinOperand e))
   implies_seen l (two o m n) i r t p q e = (p, both_pure l (two o m n) q e)
 
   node_seen : (g : Formula) (i : ℕ) (r : AnchorRange) (t : Bool) → Here i g → faults g t ≡ [] → SeenMon (node g i r t)
   unfolding node faults SeenMon pure
   node_seen (leaf a) i r t p e = (p, refl)
-  node_seen (one not g) i r t p e = (p, unless_nil (pure g) 18 e)
-  node_seen (one next g) i r t p e = (here_one i next g p, unless_nil (pure g) 17 e)
+  node_seen (one not g) i r t p e = (p, unless_nil (pure g) NotOperand e)
+  node_seen (one next g) i r t p e = (here_one i next g p, unless_nil (pure g) NextOperand e)
   node_seen (one always g) i r t p e = node_seen g (i + 1) r true (here_one i always g p) e
   node_seen (one eventually g) i r t p e = cons_nil e
   node_seen (one (always_for b) g) i r t p e =
-      node_seen g (i + 1) (upto_of (b - 1)) true (here_one i (always_for b) g p) (append_nil_inv (when (eqb b 0) 12) (faults g true) (append_nil_inv (when t 11) _ e).1).1
-  node_seen (one (within b) g) i r t p e = (omega arith, (here_one i (within b) g p, unless_nil (pure g) 14 e))
+      node_seen g (i + 1) (upto_of (b - 1)) true (here_one i (always_for b) g p) (append_nil_inv (when (eqb b 0) ZeroFor) (faults g true) (append_nil_inv (when t NestedFor) _ e).1).1
+  node_seen (one (within b) g) i r t p e = (omega arith, (here_one i (within b) g p, unless_nil (pure g) WithinOperand e))
   node_seen (two and l c) i r t p e =
       (node_seen l (i + 1) r t (here_left i and l c p) (append_nil_inv (faults l t) (faults c t) e).0, node_seen c (i + 1 + size l) r t (here_right i and l c p) (append_nil_inv (faults l t) (faults c t) e).1)
   node_seen (two or l c) i r t p e =
       (node_seen l (i + 1) r t (here_left i or l c p) (append_nil_inv (faults l t) (faults c t) e).0, node_seen c (i + 1 + size l) r t (here_right i or l c p) (append_nil_inv (faults l t) (faults c t) e).1)
   node_seen (two implies l c) i r t p e =
-      implies_seen l c i r t p (unless_nil (pure l) 13 (append_nil_inv (unless (pure l) 13) (consequent c) e).0) (append_nil_inv (unless (pure l) 13) (consequent c) e).1
+      implies_seen l c i r t p (unless_nil (pure l) Antecedent (append_nil_inv (unless (pure l) Antecedent) (consequent c) e).0) (append_nil_inv (unless (pure l) Antecedent) (consequent c) e).1
   node_seen (two until l c) i r t p e = cons_nil e
 
 -- ---- the tree of the cells
@@ -281,7 +284,7 @@ module _ (ops nums : List ℕ) (first count' : ℕ) (nodes : List ℕ) (f : Form
   unfolding cells
   at_row i = ap (λ (o : Option Formula). cell_by o first (row_of nodes i)) e
 
-  cell_read : (i : ℕ) (n : MonNode) → Stored nodes (7 * i) (node_row n) → cells ops nums first count' nodes i ≡ cell_of f first (Node n)
+  cell_read : (i : ℕ) (n : MonNode) → Stored nodes (7 * i) (node_row n) → cells ops nums first count' nodes i ≡ cell_of f first (Some n)
   cell_read i n s = at_row i ∙ ap (cell_of f first) (row_read nodes i n s)
 
   spelled : (m : Mon) (i : ℕ) → SeenMon f first m → Stored nodes (7 * i) (rows m) → Spells (cells ops nums first count' nodes) i (to_tree m)
@@ -349,7 +352,7 @@ pub compiled_reads : (ops nums : List ℕ) (first count' : ℕ) (out : List ℕ)
 unfolding compile_call
 compiled_reads ops nums first count' out n = short (roomy ops nums && leb 1792 (length out)) refl
   where
-    walked : (f : Formula) → rule_of ops nums first count' ≡ some f → 1792 ≤ length out → (fs : List ℕ) → rule_faults f ≡ fs → (first_or fs (rule_node f first) out).answer ≡ given n
+    walked : (f : Formula) → rule_of ops nums first count' ≡ some f → 1792 ≤ length out → (fs : List Refusal) → rule_faults f ≡ fs → (first_or fs (rule_node f first) out).answer ≡ given n
         → ReadsRule ops nums first count' (first_or fs (rule_node f first) out).out n
     walked f e h [] w q =
         let c : n ≡ count (rule_node f first) = sym (nodes_inj q) in
@@ -360,7 +363,7 @@ compiled_reads ops nums first count' out n = short (roomy ops nums && leb 1792 (
           counted = c;
           reads = ap (compiled_of ops nums first count' (sets out 0 (rows (rule_node f first))) 0) c ∙ reads_back ops nums first count' f out e w h;
         }
-    walked f e h (k ∷ ks) w q = not_nodes k n q
+    walked f e h (k ∷ ks) w q = not_nodes (number_of k) n q
 
     ruled : (o : Option Formula) → rule_of ops nums first count' ≡ o → 1792 ≤ length out → (compile_formula o first out).answer ≡ given n
         → ReadsRule ops nums first count' (compile_formula o first out).out n

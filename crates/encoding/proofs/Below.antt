@@ -36,3 +36,8 @@ all_inv ok (suc n) r e h = ⊎_elim
     (λ l. all_inv ok n r (both_true (all_below ok n) (ok n) e).0 l)
     (λ l. let z : r ≡ n = omega arith in ap ok z ∙ (both_true (all_below ok n) (ok n) e).1)
     (below_or r n)
+
+pub all_from : (ok : ℕ → Bool) (n : ℕ) → ((r : ℕ) → r < n → ok r ≡ true) → all_below ok n ≡ true
+unfolding all_below
+all_from ok zero h = refl
+all_from ok (suc n) h = ap (λ (b : Bool). b && ok n) (all_from ok n (λ r l. h r (omega arith))) ∙ h n (omega arith)

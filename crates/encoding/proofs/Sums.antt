@@ -6,9 +6,9 @@ use Prim.Native.Nat.{ℕ, zero, suc, ◌+◌, ◌*◌, ◌≤◌, ◌<◌}
 use native.Mathlib.Omega.{arith}
 use native.Mathlib.Numerals.{add-one}
 use lib.ListN.{length, get_or, take}
-use lib.Seq.{take-suc, take_all, get_or-take, length-take-le}
-use mir.Syntax.{w64}
-use mir.Val.{Fits}
+use Rattle.std.specs.List.{sum}
+use Rattle.std.proofs.lemmas.List.Sums.{sum_by-cons}
+use lib.Seq.{take-suc, get_or-take, length-take-le}
 use Rattle.terms.specs.Choice.{pick}
 use Rattle.plan.specs.Book.{bits_below, of_kind, properties, assumptions, is_zero, part_bits, Rowed, Counted}
 use Rattle.plan.proofs.Widths.{ceil_log2_lem}
@@ -34,44 +34,33 @@ unfolding slot_bits
 slots_more ws k h =
     ap (λ (j : ℕ). slot_bits (take j ws)) (add-one k) ∙ ap slot_bits (take-suc ws k 0 h) ∙ slots_append (take k ws) (get_or ws k 0 ∷ []) ∙ omega arith
 
-slots_none : slot_bits [] ≡ 0
+slots_sum : (ws : List ℕ) → slot_bits ws ≡ sum ws
 unfolding slot_bits
-slots_none = refl
+slots_sum [] = refl
+slots_sum (w ∷ ws) = ap (w +◌) (slots_sum ws) ∙ sym (sum_by-cons (λ x. x) w ws)
 
--- the bits of the first k of m slots
-pub record Slotted (widths : List ℕ) (m sum k : ℕ) : Type 0 where
-  pub slots : Widths widths m
-  pub below : k ≤ m
-  pub is : sum ≡ slot_bits (take k (take m widths))
-  pub most : sum ≤ 64 * k
+slots_upto : (ws : List ℕ) → ((k : ℕ) → k < length ws → get_or ws k 0 ≤ 64) → slot_bits ws ≤ 64 * length ws
+unfolding slot_bits
+slots_upto [] h = omega arith
+slots_upto (w ∷ ws) h = omega (arith, h 0 (omega arith), slots_upto ws (λ k l. h (suc k) (omega arith)))
 
-module _ (widths : List ℕ) (m : ℕ) where
-  pub slotted_none : Widths widths m → Slotted widths m 0 0
-  slotted_none w = record { slots = w; below = omega arith; is = sym slots_none; most = omega arith }
+-- the widths of m slots: each is at most 64 bits
+module _ (widths : List ℕ) (m : ℕ) (w : Widths widths m) where
+  many : length (take m widths) ≡ m
+  many = length-take-le m widths w.inside
 
-  module _ (sum k : ℕ) (s : Slotted widths m sum k) where
-    pub slotted_all : m ≤ k → SlotSum (take m widths) m sum
-    slotted_all h =
-        let e : k ≡ m = omega (arith, s.below) in
-        let l : length (take m widths) ≤ k = omega (arith, length-take-le m widths s.slots.inside) in
-        record { is = s.is ∙ ap slot_bits (take_all k (take m widths) l); most = omega (arith, s.most) }
+  slots_most : slot_bits (take m widths) ≤ 64 * m
+  slots_most = omega (arith, many, slots_upto (take m widths) (λ k h. omega (arith, get_or-take m widths k 0 (omega (arith, many)), w.each k (omega (arith, many)))))
 
-    module _ (h : k < m) where
-      pub slotted_in : k < length widths
-      slotted_in = omega (arith, s.slots.inside)
+  pub slots_fit : sum (take m widths) < 18446744073709551616
+  slots_fit = omega (arith, slots_sum (take m widths), slots_most, w.few)
 
-      pub slotted_fits : Fits w64 (sum + get_or widths k 0)
-      slotted_fits = record { fits = omega (arith, s.most, s.slots.each k h, s.slots.few) }
+  pub slots_summed : (r : ℕ) → r ≡ sum (take m widths) → SlotSum (take m widths) m r
+  slots_summed r e = record { is = e ∙ sym (slots_sum (take m widths)); most = omega (arith, e, slots_sum (take m widths), slots_most) }
 
-      pub slotted_more : Slotted widths m (sum + get_or widths k 0) (k + 1)
-      slotted_more = record {
-        slots = s.slots;
-        below = omega arith;
-        is =
-            ap₂ ◌+◌ s.is (sym (get_or-take m widths k 0 h))
-            ∙ sym (slots_more (take m widths) k (omega (arith, length-take-le m widths s.slots.inside)));
-        most = omega (arith, s.most, s.slots.each k h);
-      }
+  -- one slot more
+  pub slot_next : (k : ℕ) → k < m → slot_bits (take (k + 1) (take m widths)) ≡ slot_bits (take k (take m widths)) + get_or widths k 0
+  slot_next k h = slots_more (take m widths) k (omega (arith, many)) ∙ ap (λ (n : ℕ). slot_bits (take k (take m widths)) + n) (get_or-take m widths k 0 h)
 
 -- ---- the monitors: properties and assumptions are all rules that compile
 pub kinds_add : (property compiled : ℕ → Bool) (bits : ℕ → ℕ) (n : ℕ)
@@ -88,9 +77,6 @@ kinds_add property compiled bits (suc n) = omega (arith, kinds_add property comp
 module _ (kinds refusals nodes nfirsts ncounts : List ℕ) (n : ℕ) (w : Rowed kinds refusals nodes nfirsts ncounts n) (p a : ℕ)
     (u : Counted (of_kind true (is_zero kinds) (is_zero refusals)) (part_bits nodes nfirsts ncounts) n p)
     (v : Counted (of_kind false (is_zero kinds) (is_zero refusals)) (part_bits nodes nfirsts ncounts) n a) where
-  pub monitors_fit : Fits w64 (p + a)
-  monitors_fit = record { fits = omega (arith, u.most, v.most, w.few) }
-
   pub monitor_sum : MonitorSum n (is_zero refusals) (part_bits nodes nfirsts ncounts) (p + a)
   monitor_sum = record {
     is = ap₂ ◌+◌ u.is v.is ∙ kinds_add (is_zero kinds) (is_zero refusals) (part_bits nodes nfirsts ncounts) n;

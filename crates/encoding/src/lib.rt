@@ -7,11 +7,11 @@ ghost use Rattle.terms.specs.Limits.{book_slots, state_counts};
 ghost use Rattle.plan.specs.Book.{listed, is_zero, part_bits, Rowed};
 ghost use Rattle.encoding.specs.Encoding.{slot_from, encoding_by, narrow, opening, Widths, StateSum, SlotSum, MonitorSum};
 
-use plan::layout::{ceil_log2, kind_bits};
+use plan::layout::{RuleList, ceil_log2, kind_bits};
 use terms::limit::{BOOK_SLOTS, SLOT_MOST, STATES};
 
 // The bits of the state, of all slots, of all monitors and of the whole, and the whole in bytes.
-#[derive(Clone, Copy)]
+#[derive(Clone, Copy, Debug, PartialEq, Eq)]
 pub struct ConfigEncoding {
     pub state_bits: u64,
     pub vars_bits: u64,
@@ -33,13 +33,7 @@ pub fn slot_bits(widths: &[u64], m: usize) -> u64
     requires { Widths widths.now m }
     ensures { SlotSum (take m widths.now) m result }
 {
-    let mut sum: u64 = 0;
-    let mut k: usize = 0;
-    while k < m {
-        sum += widths[k];
-        k += 1;
-    }
-    sum
+    widths[..m].iter().sum()
 }
 
 // Where each of the first m slots begins, the first of them at bit `base`.
@@ -47,29 +41,21 @@ pub fn place_slots(widths: &[u64], m: usize, base: u64, places: &mut [u64])
     requires { (Widths widths.now m) × ((m ≤ length places.old) × (base < 2 ^ 60)) }
     ensures { places.new ≡ sets places.old 0 (listed (slot_from base (take m widths.now)) m) }
 {
-    let mut place: u64 = base;
-    let mut k: usize = 0;
-    while k < m {
+    let mut place = base;
+    // a place in two lists at once, so the loop counts it
+    for k in 0..m {
         places[k] = place;
         place += widths[k];
-        k += 1;
     }
 }
 
 // The bits of all rules that compile.
-pub fn monitor_bits(
-    kinds: &[u8],
-    refusals: &[u64],
-    nodes: &[u64],
-    nfirsts: &[usize],
-    ncounts: &[usize],
-    n: usize,
-) -> u64
-    requires { Rowed kinds.now refusals.now nodes.now nfirsts.now ncounts.now n }
-    ensures { MonitorSum n (is_zero refusals.now) (part_bits nodes.now nfirsts.now ncounts.now) result }
+pub fn monitor_bits(rules: &RuleList, nodes: &[u64], n: usize) -> u64
+    requires { Rowed rules.now.kinds.now rules.now.refusals.now nodes.now rules.now.nfirsts.now rules.now.ncounts.now n }
+    ensures { MonitorSum n (is_zero rules.now.refusals.now) (part_bits nodes.now rules.now.nfirsts.now rules.now.ncounts.now) result }
 {
-    let properties = kind_bits(kinds, refusals, nodes, nfirsts, ncounts, n, true);
-    let assumptions = kind_bits(kinds, refusals, nodes, nfirsts, ncounts, n, false);
+    let properties = kind_bits(rules, nodes, n, true);
+    let assumptions = kind_bits(rules, nodes, n, false);
     properties + assumptions
 }
 
@@ -93,26 +79,14 @@ fn are_narrow(widths: &[u64], m: usize) -> bool
     requires { m ≤ length widths.now }
     ensures { result ≡ narrow widths.now m }
 {
-    let mut k: usize = 0;
-    while k < m {
-        if SLOT_MOST < widths[k] {
-            return false;
-        }
-        k += 1;
-    }
-    true
+    widths[..m].iter().all(|w| *w <= SLOT_MOST)
 }
 
 // Whether a book may open with a count of states and m slots of these widths.
+#[tactic(auto, unfolding(crate::specs::Encoding::opening))]
 pub fn is_opening(count: u64, widths: &[u64], m: usize) -> bool
     requires { book_slots ≤ length widths.now }
     ensures { result ≡ opening count widths.now m }
 {
-    if STATES <= count {
-        return false;
-    }
-    if BOOK_SLOTS < m {
-        return false;
-    }
-    are_narrow(widths, m)
+    count < STATES && m <= BOOK_SLOTS && are_narrow(widths, m)
 }

@@ -5,16 +5,16 @@ use mathlib.Core.List.{List}
 use mathlib.Core.Option.{Option, none, some}
 use Prim.Native.Nat.{ℕ, ◌+◌, ◌-◌, ◌≤◌, ◌<◌}
 use native.Mathlib.Omega.{arith}
-use borrow.Author.Tests.{le-leb, lt-leb, leb-true}
-use lib.Dec.{leb}
+use borrow.Author.Tests.{le-leb, lt-leb, leb-true, eqb-true, eqb-false}
+use lib.Dec.{leb, eqb}
 use lib.ListN.{length}
 use Rattle.formula.specs.Tree.{tree_of, size, depth, all}
 use Rattle.formula.specs.Spells.{run}
 use Rattle.formula.specs.Formula.{Formula}
 use Rattle.formula.specs.Table.{node_at, in_word, keep, limited, in_table, rule_of, Rule, IsRule, is_some, roomy}
 use Rattle.formula.specs.Walk.{Stands, Walked}
-use Rattle.formula.specs.declared.table.Walk.{Walk}
-use Rattle.formula.specs.declared.table.Walk.TheVariants.{Upto, Stuck}
+use Rattle.std.specs.Prelude.{None, Option as Opt, Some}
+use Rattle.std.specs.Option.{option_eq}
 use Rattle.formula.proofs.Trees.{some_inj, none_some, tree_spells, spells_tree, spells_unique}
 use Rattle.formula.proofs.Walks.{both_true}
 
@@ -72,21 +72,34 @@ module _ (ops nums : List ℕ) (first count : ℕ) where
   stands : (f : Formula) → Rule ops nums first count f → Stands (node_at ops nums) in_word first (first + count) 64 (first + count) f
   stands f u = record { spells = u.spells; ends = omega arith; inside = omega arith; shallow = u.shallow; good = u.word_fits }
 
-  pub no_tree : (r : Walk) → Walked (node_at ops nums) in_word first (first + count) 64 r → r ≡ Stuck → false ≡ is_some (rule_of ops nums first count)
-  no_tree r w q = none_is (λ f u. w.stuck q (first + count) f (stands f u))
+  module _ (r : Opt ℕ) (w : Walked (node_at ops nums) in_word first (first + count) 64 r) where
+    no_tree : r ≡ None → false ≡ is_some (rule_of ops nums first count)
+    no_tree q = none_is (λ f u. w.stuck q (first + count) f (stands f u))
 
-  pub other_end : (r : Walk) (e : ℕ) → Walked (node_at ops nums) in_word first (first + count) 64 r → r ≡ Upto e → (e ≡ first + count → ⊥) → false ≡ is_some (rule_of ops nums first count)
-  other_end r e w q n = none_is λ f u.
-      let (t, s) = w.found e q in
-      let m : t ≡ f = spells_unique (node_at ops nums) first t f s.spells u.spells in
-      n (omega (arith, ap (λ (x : Formula). size x) m))
+    other_end : (e : ℕ) → r ≡ Some e → (e ≡ first + count → ⊥) → false ≡ is_some (rule_of ops nums first count)
+    other_end e q n = none_is λ f u.
+        let (t, s) = w.found e q in
+        let m : t ≡ f = spells_unique (node_at ops nums) first t f s.spells u.spells in
+        n (omega (arith, ap (λ (x : Formula). size x) m))
 
-  pub whole : (r : Walk) (e : ℕ) → Walked (node_at ops nums) in_word first (first + count) 64 r → r ≡ Upto e → e ≡ first + count → count ≤ 256 → first ≤ 1024 - count
-      → first + count ≤ length ops → first + count ≤ length nums → true ≡ is_some (rule_of ops nums first count)
-  whole r e w q n a g b c =
-      let (t, s) = w.found e q in
-      let u : Rule ops nums first count t = record { few = a; table_holds = omega arith; in_ops = b; in_nums = c; spells = s.spells; covers = omega arith; shallow = s.shallow; word_fits = s.good } in
-      sym (ap is_some (rule_of_lem t u))
+    -- the walk ends where the part does exactly where a rule stands there
+    pub ends_there : count ≤ 256 → first ≤ 1024 - count → first + count ≤ length ops → first + count ≤ length nums
+        → option_eq eqb r (Some (first + count)) ≡ is_some (rule_of ops nums first count)
+    ends_there a g b c = go r refl
+      where
+        whole : (e : ℕ) → r ≡ Some e → e ≡ first + count → true ≡ is_some (rule_of ops nums first count)
+        whole e q n =
+            let (t, s) = w.found e q in
+            let u : Rule ops nums first count t = record { few = a; table_holds = omega arith; in_ops = b; in_nums = c; spells = s.spells; covers = omega arith; shallow = s.shallow; word_fits = s.good } in
+            sym (ap is_some (rule_of_lem t u))
+
+        same : (e : ℕ) (t : Bool) → eqb e (first + count) ≡ t → r ≡ Some e → t ≡ is_some (rule_of ops nums first count)
+        same e true h q = whole e q (eqb-true _ _ h)
+        same e false h q = other_end e q (eqb-false _ _ h)
+
+        go : (o : Opt ℕ) → r ≡ o → option_eq eqb o (Some (first + count)) ≡ is_some (rule_of ops nums first count)
+        go None q = no_tree q
+        go (Some e) q = same e _ refl q
 
 pub short_ops : (ops nums : List ℕ) → length ops < 1024 → false ≡ roomy ops nums
 short_ops ops nums h = sym (ap (λ (b : Bool). b && leb 1024 (length nums)) (lt-leb _ _ h))

@@ -14,8 +14,7 @@ use Rattle.formula.specs.Formula.{Unary, Binary, Formula, signal, not, next, alw
 use Rattle.formula.specs.Table.{node_at, in_word, Placed}
 use Rattle.formula.specs.Pure.{pure, value, joined, bit}
 use Rattle.formula.specs.Signal.{end_if, Purely, Signalled, Valued, signal_nodes}
-use Rattle.formula.specs.declared.table.Walk.{Walk}
-use Rattle.formula.specs.declared.table.Walk.TheVariants.{Upto, Stuck}
+use Rattle.std.specs.Prelude.{None, Option, Some}
 use Rattle.formula.specs.declared.signal.Value.{Value}
 use Rattle.formula.proofs.Cases.{below_or, true_false}
 use Rattle.formula.proofs.Trees.{spells_unique}
@@ -57,23 +56,23 @@ impure_two implies l r h = absurd (omega arith)
 impure_two until l r h = refl
 
 -- what the walk's answer says of the formula that stands there
-ends_at : (b : Bool) (e n : ℕ) → Upto e ≡ end_if b n → (b ≡ true) × (e ≡ n)
+ends_at : (b : Bool) (e n : ℕ) → Some e ≡ end_if b n → (b ≡ true) × (e ≡ n)
 ends_at true e n z = (refl, upto_inj z)
 ends_at false e n z = stuck_upto (sym z)
 
-impure_by : (b : Bool) (e : ℕ) → Stuck ≡ end_if b e → b ≡ false
+impure_by : (b : Bool) (e : ℕ) → None ≡ end_if b e → b ≡ false
 impure_by true e z = stuck_upto z
 impure_by false e z = refl
 
-module _ (ops nums : List ℕ) (i : ℕ) (w : Walk) (p : Purely ops nums i w) (f : Formula) (s : Spells (node_at ops nums) i f) where
-  pub purely_yes : (e : ℕ) → w ≡ Upto e → (pure f ≡ true) × (e ≡ i + size f)
+module _ (ops nums : List ℕ) (i : ℕ) (w : Option ℕ) (p : Purely ops nums i w) (f : Formula) (s : Spells (node_at ops nums) i f) where
+  pub purely_yes : (e : ℕ) → w ≡ Some e → (pure f ≡ true) × (e ≡ i + size f)
   purely_yes e q = ends_at (pure f) e (i + size f) (sym q ∙ p.is f s)
 
-  pub purely_no : w ≡ Stuck → pure f ≡ false
+  pub purely_no : w ≡ None → pure f ≡ false
   purely_no q = impure_by (pure f) (i + size f) (sym q ∙ p.is f s)
 
 module _ (ops nums : List ℕ) (i : ℕ) where
-  pub purely_leaf : get_or ops i 0 < 3 → Purely ops nums i (Upto (i + 1))
+  pub purely_leaf : get_or ops i 0 < 3 → Purely ops nums i (Some (i + 1))
   unfolding pure size
   purely_leaf h = record {
     is = λ f s.
@@ -81,7 +80,7 @@ module _ (ops nums : List ℕ) (i : ℕ) where
         rw e refl;
   }
 
-  pub purely_not : (r : Walk) → 3 ≤ get_or ops i 0 → get_or ops i 0 < 4 → Purely ops nums (i + 1) r → Purely ops nums i r
+  pub purely_not : (r : Option ℕ) → 3 ≤ get_or ops i 0 → get_or ops i 0 < 4 → Purely ops nums (i + 1) r → Purely ops nums i r
   unfolding size node_at
   purely_not r h k p = record {
     is = λ f s.
@@ -90,7 +89,7 @@ module _ (ops nums : List ℕ) (i : ℕ) where
         p.is g u ∙ ap₂ end_if (sym (ap pure e ∙ pure_one o g z)) (omega (arith, ap (λ (x : Formula). size x) e));
   }
 
-  pub purely_temporal : 4 ≤ get_or ops i 0 → get_or ops i 0 < 9 → Purely ops nums i Stuck
+  pub purely_temporal : 4 ≤ get_or ops i 0 → get_or ops i 0 < 9 → Purely ops nums i None
   unfolding node_at
   purely_temporal h k = record {
     is = λ f s.
@@ -98,7 +97,7 @@ module _ (ops nums : List ℕ) (i : ℕ) where
         rw (ap pure e ∙ impure_one o g (subst (λ (n : ℕ). 4 ≤ n) (unary_number _ _ o t) h)) refl;
   }
 
-  pub purely_until : 12 ≤ get_or ops i 0 → Purely ops nums i Stuck
+  pub purely_until : 12 ≤ get_or ops i 0 → Purely ops nums i None
   unfolding node_at
   purely_until h = record {
     is = λ f s.
@@ -106,20 +105,20 @@ module _ (ops nums : List ℕ) (i : ℕ) where
         rw (ap pure e ∙ impure_two o l r (subst (λ (n : ℕ). 12 ≤ n) (binary_number _ _ o t) h)) refl;
   }
 
-  module _ (left : Walk) (h : 9 ≤ get_or ops i 0) (k : get_or ops i 0 < 12) (p : Purely ops nums (i + 1) left) where
-    pub purely_left : left ≡ Stuck → Purely ops nums i left
+  module _ (left : Option ℕ) (h : 9 ≤ get_or ops i 0) (k : get_or ops i 0 < 12) (p : Purely ops nums (i + 1) left) where
+    pub purely_left : (r : Option ℕ) → left ≡ None → r ≡ None → Purely ops nums i r
     unfolding node_at
-    purely_left q = record {
+    purely_left r q z = record {
       is = λ f s.
-          let (o, l, r, t, e, u, w) = two_there ops nums i f s h in
-          let b : pure f ≡ (pure l && pure r) = ap pure e ∙ pure_two o l r (subst (λ (n : ℕ). n < 12) (binary_number _ _ o t) k) in
-          q ∙ sym (ap (λ (x : Bool). end_if x (i + size f)) (b ∙ ap (λ (x : Bool). x && pure r) (impure_by (pure l) (i + 1 + size l) (sym q ∙ p.is l u))));
+          let (o, l, n, t, e, u, w) = two_there ops nums i f s h in
+          let b : pure f ≡ (pure l && pure n) = ap pure e ∙ pure_two o l n (subst (λ (m : ℕ). m < 12) (binary_number _ _ o t) k) in
+          z ∙ sym (ap (λ (x : Bool). end_if x (i + size f)) (b ∙ ap (λ (x : Bool). x && pure n) (impure_by (pure l) (i + 1 + size l) (sym q ∙ p.is l u))));
     }
 
-    pub purely_end : (e : ℕ) → left ≡ Upto e → (f : Formula) → Spells (node_at ops nums) (i + 1) f → e ≡ i + 1 + size f
+    pub purely_end : (e : ℕ) → left ≡ Some e → (f : Formula) → Spells (node_at ops nums) (i + 1) f → e ≡ i + 1 + size f
     purely_end e q f s = (ends_at (pure f) e _ (sym q ∙ p.is f s)).1
 
-    pub purely_two : (e : ℕ) (right : Walk) → left ≡ Upto e → Purely ops nums e right → Purely ops nums i right
+    pub purely_two : (e : ℕ) (right : Option ℕ) → left ≡ Some e → Purely ops nums e right → Purely ops nums i right
     unfolding size node_at
     purely_two e right q w = record {
       is = λ f s.
@@ -137,7 +136,7 @@ module _ (ops nums : List ℕ) (i : ℕ) where
   pub fewer_not : Placed ops nums i → 3 ≤ get_or ops i 0 → get_or ops i 0 < 4 → (t : ℕ) → signal_nodes ops nums i ≡ t → signal_nodes ops nums (i + 1) < t
   fewer_not p h k t q = fewer_one ops nums i p h (omega arith) t q
 
-  module _ (p : Placed ops nums i) (left : Walk) (e : ℕ) (h : 9 ≤ get_or ops i 0) (k : get_or ops i 0 < 12) (q : Purely ops nums (i + 1) left) (z : left ≡ Upto e) where
+  module _ (p : Placed ops nums i) (left : Option ℕ) (e : ℕ) (h : 9 ≤ get_or ops i 0) (k : get_or ops i 0 < 12) (q : Purely ops nums (i + 1) left) (z : left ≡ Some e) where
     pub placed_behind : Placed ops nums e
     placed_behind = placed_right ops nums i p e h (purely_end left h k q e z)
 
@@ -230,7 +229,7 @@ module _ (ops nums : List ℕ) (i : ℕ) (g : Signalled ops nums i) where
   sig_next h = ⊎_elim (λ k. sig_not h k) (λ k. sig_left k) (below_or (get_or ops i 0) 9)
 
   -- the measure of the walk, three for each node of the signal, falls
-  pub sig_falls : 3 ≤ get_or ops i 0 → (t : ℕ) → 3 * signal_nodes ops nums i ≡ t → 3 * signal_nodes ops nums (i + 1) + 2 < t
+  pub sig_falls : 3 ≤ get_or ops i 0 → (t : ℕ) → 2 * signal_nodes ops nums i ≡ t → 2 * signal_nodes ops nums (i + 1) + 1 < t
   sig_falls h t q = ⊎_elim
       (λ k. omega (arith, fewer_one ops nums i g.place h k _ refl))
       (λ k. omega (arith, fewer_left ops nums i g.place k _ refl))
@@ -261,7 +260,7 @@ module _ (ops nums : List ℕ) (i : ℕ) (g : Signalled ops nums i) where
           word_fits = (both_true (all in_word l) (all in_word r) (sym (ap (all in_word) e) ∙ g.word_fits)).1;
         }
 
-    pub sig_falls_right : (t : ℕ) → 3 * signal_nodes ops nums i ≡ t → 3 * signal_nodes ops nums v.end + 2 < t
+    pub sig_falls_right : (t : ℕ) → 2 * signal_nodes ops nums i ≡ t → 2 * signal_nodes ops nums v.end + 1 < t
     sig_falls_right t q = omega (arith, fewer_right ops nums i g.place v.end (two_words h) (λ f u. (x.is f u).1) _ refl)
 
     pub valued_two : (y : Value) (b : Bool) → Valued ops nums v.end w y → b ≡ joined (get_or ops i 0) v.value y.value → Valued ops nums i w (record { value = b; end = y.end })

@@ -19,8 +19,8 @@ pure (two or l r) = pure l && pure r
 pure (two implies l r) = pure l && pure r
 pure (two until l r) = false
 
--- refusal n, unless the test holds: a walk's answer where an operand has to be pure
-abbrev pub unless : Bool → ℕ → List ℕ
+-- a refusal, unless the test holds: a walk's answer where an operand has to be pure
+abbrev pub unless : {A : Type 0} → Bool → A → List A
 unless true n = []
 unless false n = n ∷ []
 

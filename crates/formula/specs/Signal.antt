@@ -5,8 +5,7 @@ use Rattle.formula.specs.Spells.{Spells, nodes_at}
 use Rattle.formula.specs.Formula.{Formula}
 use Rattle.formula.specs.Table.{node_at, in_word, Placed}
 use Rattle.formula.specs.Pure.{pure, value}
-use Rattle.formula.specs.declared.table.Walk.{Walk}
-use Rattle.formula.specs.declared.table.Walk.TheVariants.{Upto, Stuck}
+use Rattle.std.specs.Prelude.{None, Option, Some}
 use Rattle.formula.specs.declared.signal.Value.{Value}
 
 -- the formula there is a signal: pure, of atoms within a word
@@ -16,11 +15,11 @@ pub record Signalled (ops nums : List ℕ) (i : ℕ) : Type 0 where
   pub word_fits : all in_word place.formula ≡ true
 
 -- what the purity walk answers at i: where the formula there ends, if it is pure
-abbrev pub end_if : Bool → ℕ → Walk
-end_if true e = Upto e
-end_if false e = Stuck
+abbrev pub end_if : Bool → ℕ → Option ℕ
+end_if true e = Some e
+end_if false e = None
 
-pub record Purely (ops nums : List ℕ) (i : ℕ) (r : Walk) : Type 0 where
+pub record Purely (ops nums : List ℕ) (i : ℕ) (r : Option ℕ) : Type 0 where
   pub is : (f : Formula) → Spells (node_at ops nums) i f → r ≡ end_if (pure f) (i + size f)
 
 -- what evaluating the pure formula at i answers: its value, and where it ends

@@ -1,4 +1,4 @@
-// The formula table: an operation and a number for each node, in prefix order.
+// The formula table, and the formulas in it.
 ghost use Rattle.std.specs.Prelude.{◌≡◌, ◌≤◌, length};
 ghost use Rattle.formula.specs.Walk.{Walked};
 ghost use Rattle.formula.specs.Table.{node_at, in_word, is_some, rule_of, roomy};
@@ -6,79 +6,73 @@ ghost use Rattle.formula.specs.Table.{node_at, in_word, is_some, rule_of, roomy}
 use terms::limit::{BOOK_NODES, DEEPEST, RULE_NODES, SIGNALS};
 use terms::op::{AND, NOT, WORDS};
 
-// Where the tree at a place ends, or that none within the limits stands there.
+// A lent table: an operation and a number for each node, in prefix order.
 #[derive(Clone, Copy)]
-pub enum Walk {
-    Upto(usize),
-    Stuck,
+pub struct FormulaTable<'a> {
+    pub ops: &'a [u8],
+    pub nums: &'a [u64],
 }
 
-// The formula at i, which has to end by `end` and to be at most `room` deep.
-fn tree_at(ops: &[u8], nums: &[u64], i: usize, end: usize, room: usize) -> Walk
-    requires { (end ≤ length ops.now) × (end ≤ length nums.now) }
-    ensures { Walked (node_at ops.now nums.now) in_word i end room result }
-{
-    if end <= i {
-        return Walk::Stuck;
-    }
-    if room == 0 {
-        return Walk::Stuck;
-    }
-    let op = ops[i];
-    if WORDS <= op {
-        return Walk::Stuck;
-    }
-    if op < NOT {
-        if nums[i] < SIGNALS {
-            return Walk::Upto(i + 1);
+impl FormulaTable<'_> {
+    // Where the formula at i ends, if it ends by `end` and is at most `room` deep.
+    fn tree_at(&self, i: usize, end: usize, room: usize) -> Option<usize>
+        requires { (end ≤ length self.now.ops.now) × (end ≤ length self.now.nums.now) }
+        ensures { Walked (node_at self.now.ops.now self.now.nums.now) in_word i end room result }
+    {
+        if end <= i {
+            return None;
         }
-        return Walk::Stuck;
+        if room == 0 {
+            return None;
+        }
+        let op = self.ops[i];
+        if WORDS <= op {
+            return None;
+        }
+        if op < NOT {
+            if self.nums[i] < SIGNALS {
+                return Some(i + 1);
+            }
+            return None;
+        }
+        let first = self.tree_at(i + 1, end, room - 1);
+        if op < AND {
+            return first;
+        }
+        let e = first?;
+        self.tree_at(e, end, room - 1)
     }
-    let first = tree_at(ops, nums, i + 1, end, room - 1);
-    if op < AND {
-        return first;
-    }
-    let Walk::Upto(e) = first else {
-        return first;
-    };
-    tree_at(ops, nums, e, end, room - 1)
-}
 
-// Whether a rule's part of the table is a formula within the limits.
-pub fn is_rule(ops: &[u8], nums: &[u64], first: usize, count: usize) -> bool
-    ensures { result ≡ is_some (rule_of ops.now nums.now first count) }
-{
-    if RULE_NODES < count {
-        return false;
+    // Whether a rule's part of the table is a formula within the limits.
+    pub fn is_rule(&self, first: usize, count: usize) -> bool
+        ensures { result ≡ is_some (rule_of self.now.ops.now self.now.nums.now first count) }
+    {
+        if RULE_NODES < count {
+            return false;
+        }
+        if BOOK_NODES - count < first {
+            return false;
+        }
+        let end = first + count;
+        if self.ops.len() < end {
+            return false;
+        }
+        if self.nums.len() < end {
+            return false;
+        }
+        self.tree_at(first, end, DEEPEST) == Some(end)
     }
-    if BOOK_NODES - count < first {
-        return false;
-    }
-    let end = first + count;
-    if ops.len() < end {
-        return false;
-    }
-    if nums.len() < end {
-        return false;
-    }
-    let Walk::Upto(e) = tree_at(ops, nums, first, end, DEEPEST) else {
-        return false;
-    };
-    if e == end {
-        return true;
-    }
-    false
-}
 
-// Whether the lent slices have room for 1,024 nodes.
-pub fn is_roomy(ops: &[u8], nums: &[u64]) -> bool
-    ensures { result ≡ roomy ops.now nums.now }
-{
-    if ops.len() < BOOK_NODES {
-        return false;
+    // Whether the lent slices have room for 1,024 nodes.
+    pub fn is_roomy(&self) -> bool
+        ensures { result ≡ roomy self.now.ops.now self.now.nums.now }
+    {
+        if self.ops.len() < BOOK_NODES {
+            return false;
+        }
+        if self.nums.len() < BOOK_NODES {
+            return false;
+        }
+        true
     }
-    if nums.len() < BOOK_NODES {
-        return false;
-    }
-    true
 }

@@ -1,11 +1,11 @@
 -- The calls on a monitor struct: it is read as the lent monitor of crates/stepping, and each call is that crate's call on it.
-use Rattle.std.specs.Prelude.{ℕ}
-use Rattle.stepping.specs.declared.fresh.Outcome.{Outcome}
-use Rattle.stepping.specs.declared.fresh.Outcome.TheVariants.{Made, Refused}
+use Rattle.std.specs.Prelude.{ℕ, Result}
+use Rattle.std.specs.Result.{result_unwrap_or}
+use Rattle.result.specs.declared.Refusal.{Refusal}
 use Rattle.node_step.specs.Memory.{Memory, entries}
 use Rattle.lent.specs.Lent.{LentTables, LentMonitor, monitor_of}
-use Rattle.stepping.specs.Call.{verdict_of, step_call}
-use Rattle.stepping.specs.Fresh.{outcome_of, Making, fresh_call}
+use Rattle.stepping.specs.Call.{step_call}
+use Rattle.stepping.specs.Fresh.{Making, fresh_call}
 use Rattle.in_place.specs.declared.ReferenceMonitor.{ReferenceMonitor}
 use Rattle.in_place.specs.declared.step.Advanced.{Advanced}
 use Rattle.in_place.specs.declared.fresh.Started.{Started}
@@ -34,19 +34,18 @@ struct_of k = record {
 unfoldable pub step_in : LentTables → ReferenceMonitor → ℕ → ℕ → Advanced
 step_in t m s w = record {
   monitor = struct_of (monitor_of m.size m.forms m.bounds (step_call t (held_by m) s w).memory);
-  verdict = verdict_of (step_call t (held_by m) s w).answer;
+  verdict = (step_call t (held_by m) s w).answer;
 }
 
 -- the count of nodes after making a monitor: a refusal leaves it
-abbrev pub size_after : Outcome → ℕ → ℕ
-size_after (Made n) size = n
-size_after (Refused n) size = size
+abbrev pub size_after : Result ℕ Refusal → ℕ → ℕ
+size_after r size = result_unwrap_or r size
 
 -- what a call that makes a monitor leaves of a struct of `size` nodes
 abbrev pub started_of : Making → ℕ → Started
 started_of c size = record {
-  monitor = struct_of (monitor_of (size_after (outcome_of c.answer) size) c.forms c.bounds c.memory);
-  outcome = outcome_of c.answer;
+  monitor = struct_of (monitor_of (size_after c.answer size) c.forms c.bounds c.memory);
+  outcome = c.answer;
 }
 
 -- making a monitor: its nodes' forms and bounds and cleared states, or the refusal and the struct as it was (`fresh_call`)

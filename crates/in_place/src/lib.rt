@@ -7,7 +7,7 @@ pub mod step;
 use terms::limit::RULE_NODES;
 
 // The count of its nodes, and for each node its form, its bound and its state (crates/node_step, `MonState`).
-#[derive(Clone, Copy)]
+#[derive(Clone, Copy, Debug, PartialEq, Eq)]
 pub struct ReferenceMonitor {
     pub size: usize,
     pub forms: [u64; RULE_NODES],

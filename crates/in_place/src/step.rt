@@ -1,33 +1,26 @@
 // A step call on a monitor: by value, and in place.
 ghost use Rattle.std.specs.Prelude.{◌≡◌};
-ghost use Rattle.lent.specs.Lent.{tables};
+ghost use Rattle.lent.specs.Lists.{tables_of};
 ghost use Rattle.in_place.specs.InPlace.{step_in};
 
 use crate::ReferenceMonitor;
-use stepping::call::Verdict;
+use lent::Frame;
+use monitor::table::{Part, Tables};
+use node_step::state::Memory;
+use result::Refusal;
 
 // The answer to a step call, and the monitor afterwards.
-#[derive(Clone, Copy)]
+#[derive(Clone, Copy, Debug, PartialEq, Eq)]
 pub struct Advanced {
     pub monitor: ReferenceMonitor,
-    pub verdict: Verdict,
+    pub verdict: Result<bool, Refusal>,
 }
 
 // Steps a monitor once, at step s with truths w, over the tables that hold its rule.
-pub fn stepped(
-    m: ReferenceMonitor,
-    ops: &[u8],
-    nums: &[u64],
-    first: usize,
-    count: usize,
-    nodes: &[u64],
-    nfirst: usize,
-    ncount: usize,
-    s: u64,
-    w: u64,
-) -> Advanced
-    ensures { result ≡ step_in (tables ops.now nums.now first count nodes.now nfirst ncount) m s w }
+pub fn stepped(m: ReferenceMonitor, tables: &Tables, part: Part, s: u64, w: u64) -> Advanced
+    ensures { result ≡ step_in (tables_of tables.now part) m s w }
 {
+    // array by array, which copies fewer bytes at each step than a second struct or `..m`
     let size = m.size;
     let forms = m.forms;
     let bounds = m.bounds;
@@ -35,24 +28,18 @@ pub fn stepped(
     let mut remaining = m.remaining;
     let mut failed = m.failed;
     let mut culprits = m.culprits;
-    let verdict = stepping::call::step(
-        ops,
-        nums,
-        first,
-        count,
-        nodes,
-        nfirst,
-        ncount,
+    let frame = Frame {
         size,
-        &forms,
-        &bounds,
-        &mut held,
-        &mut remaining,
-        &mut failed,
-        &mut culprits,
-        s,
-        w,
-    );
+        forms: &forms,
+        bounds: &bounds,
+    };
+    let mut memory = Memory {
+        held: &mut held,
+        remaining: &mut remaining,
+        failed: &mut failed,
+        culprits: &mut culprits,
+    };
+    let verdict = stepping::call::step(tables, part, &frame, &mut memory, s, w);
     let monitor = ReferenceMonitor {
         size,
         forms,
@@ -68,20 +55,15 @@ pub fn stepped(
 // The same on a lent monitor, which it changes.
 pub fn step(
     m: &mut ReferenceMonitor,
-    ops: &[u8],
-    nums: &[u64],
-    first: usize,
-    count: usize,
-    nodes: &[u64],
-    nfirst: usize,
-    ncount: usize,
+    tables: &Tables,
+    part: Part,
     s: u64,
     w: u64,
-) -> Verdict
-    ensures { (result ≡ (step_in (tables ops.now nums.now first count nodes.now nfirst ncount) m.old s w).verdict)
-        × (m.new ≡ (step_in (tables ops.now nums.now first count nodes.now nfirst ncount) m.old s w).monitor) }
+) -> Result<bool, Refusal>
+    ensures { (result ≡ (step_in (tables_of tables.now part) m.old s w).verdict)
+        × (m.new ≡ (step_in (tables_of tables.now part) m.old s w).monitor) }
 {
-    let out = stepped(*m, ops, nums, first, count, nodes, nfirst, ncount, s, w);
+    let out = stepped(*m, tables, part, s, w);
     *m = out.monitor;
     out.verdict
 }

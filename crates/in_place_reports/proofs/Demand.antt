@@ -5,7 +5,9 @@ use mathlib.Core.List.{List, [], ◌∷◌}
 use mathlib.Core.Option.{some}
 use mathlib.Core.Path.{◌≡◌, refl, sym, ap, subst, ◌∙◌}
 use Prim.Native.Nat.{ℕ, ◌≤◌}
-use Rattle.result.specs.Result.{Result, given}
+use Rattle.std.specs.Prelude.{Result, Ok}
+use Rattle.result.specs.Result.{given}
+use Rattle.result.specs.declared.Refusal.{Refusal}
 use Rattle.formula.specs.Formula.{Formula}
 use Rattle.formula.specs.Table.{rule_of}
 use Rattle.formula.proofs.Trees.{some_inj}
@@ -19,12 +21,9 @@ use Rattle.meaning.specs.State.{initial_state}
 use Rattle.meaning.proofs.Machines.{Lawful, meets}
 use Rattle.lent.specs.Lent.{LentTables, LentMonitor, HoldsRule, Ready, rule_mon, monitor_of}
 use Rattle.stepping.specs.Walk.{read_mon}
-use Rattle.stepping.specs.Call.{result_of, step_call}
-use Rattle.stepping.specs.Fresh as Fresh
-use Rattle.stepping.specs.Fresh.{fresh_call, fresh_of, outcome_of}
+use Rattle.stepping.specs.Call.{step_call}
+use Rattle.stepping.specs.Fresh.{fresh_call, fresh_of}
 use Rattle.stepping.proofs.Starting.{fresh_state, fresh_ready}
-use Rattle.stepping.proofs.Telling.{verdict_told, outcome_told}
-use Rattle.reports.specs.Calls as slices
 use Rattle.reports.specs.Calls.{step_event, calls_by, step_report, on_slices, compiled_tables, made_monitor}
 use Rattle.reports.proofs.Following.{lawful}
 use Rattle.reports.proofs.Demand.{made_of}
@@ -37,11 +36,11 @@ use Rattle.in_place_reports.specs.Calls.{ReadsAs, StepCall, in_place, DemandInPl
 -- ---- single calls
 module _ (e : StepCall) (k : ReferenceMonitor) where
   -- the answer of the call on slices
-  same_answer : result_of (step_in e.tables k e.at e.truths).verdict ≡ (step_call e.tables (held_by k) e.at e.truths).answer
+  same_answer : (step_in e.tables k e.at e.truths).verdict ≡ (step_call e.tables (held_by k) e.at e.truths).answer
   unfolding step_in
-  same_answer = verdict_told (step_call e.tables (held_by k) e.at e.truths).answer
+  same_answer = refl
 
-  abbrev own_calls : Result Bool → List Call
+  abbrev own_calls : Result Bool Refusal → List Call
   own_calls r = calls_by r (accepted e.at e.truths ∷ [])
 
   same_calls : in_place.calls e k ≡ on_slices.calls (step_event e.tables e.at e.truths) (held_by k)
@@ -52,7 +51,7 @@ unfolding step_in
 lawful_in_place m = record {
   follows = λ e k st r f.
       let (a, b) = (lawful m).follows (step_event e.tables e.at e.truths) (held_by k) st r (λ h. f (subst (λ (cs : List Call). 1 ≤ step_count cs) (sym (same_calls e k)) h)) in
-      (a ∙ ap (step_all m st) (sym (same_calls e k)), ap (λ (x : Result Bool). step_report x e.at) (same_answer e k) ∙ b ∙ ap (calls.report_of m st) (sym (same_calls e k)));
+      (a ∙ ap (step_all m st) (sym (same_calls e k)), ap (λ (x : Result Bool Refusal). step_report x e.at) (same_answer e k) ∙ b ∙ ap (calls.report_of m st) (sym (same_calls e k)));
   stays = λ e k d f. (lawful m).stays (step_event e.tables e.at e.truths) (held_by k) d (λ h. f (subst (λ (cs : List Call). 1 ≤ step_count cs) (sym (same_calls e k)) h));
   takes = λ e k d g. same_calls e k ∙ (lawful m).takes (step_event e.tables e.at e.truths) (held_by k) d (record { own = g.own; roomy = g.roomy; below = g.below });
 }
@@ -70,14 +69,14 @@ pub record Started (t : LentTables) (k : ReferenceMonitor) (m : Mon) : Type 0 wh
   pub reads : ReadsAs m (fresh_in t k).monitor (initial_state m)
   pub ready : Ready (held_by (fresh_in t k).monitor) m
 
-module _ (t : LentTables) (k : ReferenceMonitor) (n : ℕ) (m : Mon) (own : rule_mon t ≡ some m) (made : Fresh.result_of (fresh_in t k).outcome ≡ given n) where
-  given_there : (fresh_call t k.forms k.bounds (memory_of k)).answer ≡ given n
+module _ (t : LentTables) (k : ReferenceMonitor) (n : ℕ) (m : Mon) (own : rule_mon t ≡ some m) (made : (fresh_in t k).outcome ≡ Ok n) where
+  given_there : (fresh_call t k.forms k.bounds (memory_of k)).answer ≡ Ok n
   unfolding fresh_in
-  given_there = sym (outcome_told (fresh_call t k.forms k.bounds (memory_of k)).answer) ∙ made
+  given_there = made
 
   same_monitor : held_by (fresh_in t k).monitor ≡ made_monitor n (fresh_call t k.forms k.bounds (memory_of k))
   unfolding fresh_in
-  same_monitor = ap (λ (r : Result ℕ). made_monitor (size_after (outcome_of r) k.size) (fresh_call t k.forms k.bounds (memory_of k))) given_there
+  same_monitor = ap (λ (r : Result ℕ Refusal). made_monitor (size_after r k.size) (fresh_call t k.forms k.bounds (memory_of k))) given_there
 
   pub started : Started t k m
   started =

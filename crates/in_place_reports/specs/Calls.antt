@@ -2,7 +2,7 @@
 -- `in_place::step::step` and `step_table` are equality with `step_in`, of which the machines are made.
 --     in_place, DemandInPlace      the calls on plain tables: `compile_formula`, and `fresh` and `step` in place
 --     on_tables, DemandOnTables    the calls over node structs: `compile_table`, `fresh_table`, `step_table`
-use Rattle.std.specs.Prelude.{true, List, [], ◌∷◌, ◌≡◌, ℕ}
+use Rattle.std.specs.Prelude.{true, List, [], ◌∷◌, ◌≡◌, ℕ, Ok}
 use Rattle.std.proofs.Math.Option.{some}
 use Rattle.result.specs.Result.{given}
 use Rattle.formula.specs.Formula.{Formula}
@@ -15,8 +15,6 @@ use Rattle.meaning.specs.Demand.{Machine, Demand}
 use Rattle.meaning.specs.State.{State}
 use Rattle.lent.specs.Lent.{LentTables, table_room, rule_mon}
 use Rattle.stepping.specs.Walk.{read_mon}
-use Rattle.stepping.specs.Call.{result_of}
-use Rattle.stepping.specs.Fresh as fresh
 use Rattle.reports.specs.Calls.{calls_by, step_report, compiled_tables}
 use Rattle.in_place.specs.declared.ReferenceMonitor.{ReferenceMonitor}
 use Rattle.in_place.specs.InPlace.{memory_of, step_in, fresh_in}
@@ -40,8 +38,8 @@ in_place = record {
   asks = λ e. accepted e.at e.truths ∷ [];
   Own = λ e m. rule_mon e.tables ≡ some m;
   Roomy = λ e. table_room e.tables.ops e.tables.nums e.tables.nodes ≡ true;
-  calls = λ e k. calls_by (result_of (step_in e.tables k e.at e.truths).verdict) (accepted e.at e.truths ∷ []);
-  reports = λ e k. step_report (result_of (step_in e.tables k e.at e.truths).verdict) e.at;
+  calls = λ e k. calls_by (step_in e.tables k e.at e.truths).verdict (accepted e.at e.truths ∷ []);
+  reports = λ e k. step_report (step_in e.tables k e.at e.truths).verdict e.at;
   run = λ e k. (step_in e.tables k e.at e.truths).monitor;
 }
 
@@ -49,7 +47,7 @@ abbrev pub DemandInPlace : Type 0
 DemandInPlace =
     (ops nums : List ℕ) (first count : ℕ) (f : Formula) → rule_of ops nums first count ≡ some f →
     (out : List ℕ) (n : ℕ) → (compile_call ops nums first count out).answer ≡ given n →
-    (k : ReferenceMonitor) → fresh.result_of (fresh_in (compiled_tables ops nums first count out n) k).outcome ≡ given n →
+    (k : ReferenceMonitor) → (fresh_in (compiled_tables ops nums first count out n) k).outcome ≡ Ok n →
     Demand in_place f (rule_node f first) (ReadsAs (rule_node f first)) (fresh_in (compiled_tables ops nums first count out n) k).monitor
 
 -- ---- over node structs
@@ -82,6 +80,6 @@ abbrev pub DemandOnTables : Type 0
 DemandOnTables =
     (table : List FormulaNode) (first count : ℕ) (f : Formula) → rule_of (ops_of table) (nums_of table) first count ≡ some f →
     (out : List ℕ) (n : ℕ) → (compile_call (ops_of table) (nums_of table) first count out).answer ≡ given n →
-    (k : ReferenceMonitor) → fresh.result_of (fresh_in (tables_over table first count (compile_call (ops_of table) (nums_of table) first count out).out 0 n) k).outcome ≡ given n →
+    (k : ReferenceMonitor) → (fresh_in (tables_over table first count (compile_call (ops_of table) (nums_of table) first count out).out 0 n) k).outcome ≡ Ok n →
     Demand on_tables f (rule_node f first) (ReadsAs (rule_node f first))
     (fresh_in (tables_over table first count (compile_call (ops_of table) (nums_of table) first count out).out 0 n) k).monitor

@@ -10,8 +10,7 @@ use Rattle.std.specs.Prelude.{Bool, true, false, ◌&&◌, ◌||◌, cond, List,
 use Rattle.terms.specs.Choice.{pick}
 use Rattle.monitor.specs.declared.node.MonNode.{MonNode}
 use Rattle.monitor.specs.declared.node.MonNode.TheVariants.{RangeCheck, DelayedCheck, Obligation, And as AndNode, Or as OrNode}
-use Rattle.monitor.specs.declared.node.Row.{Row}
-use Rattle.monitor.specs.declared.node.Row.TheVariants.{Node, Unknown}
+use Rattle.std.specs.Prelude.{None, Option, Some}
 use Rattle.monitor.specs.Mon.{Mon, check, And, Or, node_of}
 use Rattle.monitor.specs.Table.{row_of}
 use Rattle.plan.specs.Width.{width}
@@ -121,9 +120,9 @@ entered mem k [] = mem
 entered mem k (e ∷ es) = entered (put mem k e) (k + 1) es
 
 -- ---- by the rows of a node table. `rows_keep` (crate saving, proofs/Rows.antt): where they hold a compiled rule they are what that rule keeps
-abbrev pub keep_row : Row → Keep
-keep_row (Node n) = keep_node n
-keep_row Unknown = Nothing
+abbrev pub keep_row : Option MonNode → Keep
+keep_row (Some n) = keep_node n
+keep_row None = Nothing
 
 -- n rows from row i on
 unfoldable pub row_keeps : List ℕ → ℕ → ℕ → List Keep

@@ -3,60 +3,39 @@ use mathlib.Core.Path.{◌≡◌, refl, sym, ap, ap₂, subst, ◌∙◌}
 use mathlib.Core.Bool.{Bool, true, false, ◌&&◌, not}
 use mathlib.Core.List.{List, [], ◌∷◌, ◌++◌}
 use mathlib.Core.Option.{Option, none, some}
-use Prim.Native.Nat.{ℕ, zero, suc, ◌+◌, ◌^◌, ◌≤◌, ◌<◌}
+use Prim.Native.Nat.{ℕ, zero, suc, ◌+◌, ◌≤◌, ◌<◌}
 use native.Mathlib.Omega.{arith}
-use borrow.Author.Tests.{le-leb, lt-leb, leb-true, eq-eqb, ne_eqb}
+use borrow.Author.Tests.{le-leb, leb-true, eq-eqb, ne_eqb}
 use lib.Dec.{leb, eqb}
 use lib.ListN.{length, get_or, take}
 use lib.Seq.{sets, length-take-le}
-use mir.Syntax.{w64}
-use mir.Val.{Fits}
 use Rattle.terms.specs.Choice.{pick}
 use Rattle.result.specs.Result.{given, refused}
 use Rattle.formula.specs.Formula.{Formula}
-use Rattle.formula.specs.Table.{is_some, rule_of, roomy}
+use Rattle.formula.specs.Table.{is_some, rule_of}
 use Rattle.formula.proofs.Rules.{both_long}
 use Rattle.formula.proofs.Cases.{true_false}
 use Rattle.formula.proofs.Walks.{both_true}
 use Rattle.monitor.specs.Mon.{Mon}
 use Rattle.monitor.specs.Compile.{rule_faults, rule_node}
-use Rattle.compiler.specs.declared.Compiled.{Compiled}
-use Rattle.compiler.specs.declared.Compiled.TheVariants.{Nodes, Refused}
-use Rattle.compiler.specs.Compiled.{result_of, Call, first_or, compile_formula, rule_call, or_short, compile_call, Answers}
+use Rattle.std.specs.Prelude.{Ok, Err}
+use Rattle.std.specs.Prelude.{Result as Returned}
+use Rattle.result.specs.Refusal.{number_of, told}
+use Rattle.result.specs.declared.Refusal.{Refusal}
+use Rattle.compiler.specs.Compiled.{Call, first_or, compile_formula, rule_call, or_short, compile_call, Answers}
 use Rattle.plan.specs.Book.{first_bit, listed, kept, filled_in, is_zero, part_bits, Rowed, Arranged}
 use Rattle.plan.proofs.Rows.{table_bits}
 use Rattle.plan.proofs.Books.{pick_same, same_first, same_below}
 use Rattle.encoding.specs.declared.ConfigEncoding.{ConfigEncoding}
 use Rattle.encoding.specs.Below.{all_below}
 use Rattle.encoding.specs.Encoding.{state_bits_of, slot_bits, slot_from, monitors_base, encoding_by, encoding_of, opening, StateSum, SlotSum, MonitorSum}
-use Rattle.encoding.proofs.Below.{all_none, all_more, all_false, all_inv}
+use Rattle.encoding.proofs.Below.{all_false, all_inv}
 use Rattle.encoding.proofs.Places.{opening_count, opening_widths}
-use Rattle.layout.specs.Entry.{roomy_nodes, roomy_rules, rule_at, mon_at, bits_in, agrees, fine, fine_of, Outcome, outcome, sound, roomy_tables, roomy_outputs, slots_in, laid_out, layout_of, InRules, InRulesUpto, Layable, Laid}
+use Rattle.layout.specs.Entry.{roomy_nodes, roomy_rules, rule_at, mon_at, bits_in, agrees, fine, fine_of, Outcome, outcome, sound, roomy_tables, roomy_outputs, slots_in, laid_out, layout_of, Layable, Laid}
 use Rattle.layout.proofs.Rules.{some_mon, part_compiled}
 
 -- ---- room for 64 rules
 module _ (k r f c nf nc : List ℕ) where
-  pub short_1 : length k < 64 → false ≡ roomy_rules k r f c nf nc
-  short_1 h = rw (lt-leb 64 (length k) h) refl
-
-  pub short_2 : 64 ≤ length k → length r < 64 → false ≡ roomy_rules k r f c nf nc
-  short_2 h₁ h = rw (le-leb 64 (length k) h₁, lt-leb 64 (length r) h) refl
-
-  pub short_3 : 64 ≤ length k → 64 ≤ length r → length f < 64 → false ≡ roomy_rules k r f c nf nc
-  short_3 h₁ h₂ h = rw (le-leb 64 (length k) h₁, le-leb 64 (length r) h₂, lt-leb 64 (length f) h) refl
-
-  pub short_4 : 64 ≤ length k → 64 ≤ length r → 64 ≤ length f → length c < 64 → false ≡ roomy_rules k r f c nf nc
-  short_4 h₁ h₂ h₃ h = rw (le-leb 64 (length k) h₁, le-leb 64 (length r) h₂, le-leb 64 (length f) h₃, lt-leb 64 (length c) h) refl
-
-  pub short_5 : 64 ≤ length k → 64 ≤ length r → 64 ≤ length f → 64 ≤ length c → length nf < 64 → false ≡ roomy_rules k r f c nf nc
-  short_5 h₁ h₂ h₃ h₄ h = rw (le-leb 64 (length k) h₁, le-leb 64 (length r) h₂, le-leb 64 (length f) h₃, le-leb 64 (length c) h₄, lt-leb 64 (length nf) h) refl
-
-  pub short_6 : 64 ≤ length k → 64 ≤ length r → 64 ≤ length f → 64 ≤ length c → 64 ≤ length nf → length nc < 64 → false ≡ roomy_rules k r f c nf nc
-  short_6 h₁ h₂ h₃ h₄ h₅ h = rw (le-leb 64 (length k) h₁, le-leb 64 (length r) h₂, le-leb 64 (length f) h₃, le-leb 64 (length c) h₄, le-leb 64 (length nf) h₅, lt-leb 64 (length nc) h) refl
-
-  pub all_long : 64 ≤ length k → 64 ≤ length r → 64 ≤ length f → 64 ≤ length c → 64 ≤ length nf → 64 ≤ length nc → true ≡ roomy_rules k r f c nf nc
-  all_long h₁ h₂ h₃ h₄ h₅ h₆ = rw (le-leb 64 (length k) h₁, le-leb 64 (length r) h₂, le-leb 64 (length f) h₃, le-leb 64 (length c) h₄, le-leb 64 (length nf) h₅, le-leb 64 (length nc) h₆) refl
-
   record Long : Type 0 where
     pub k_long : 64 ≤ length k
     pub r_long : 64 ≤ length r
@@ -75,13 +54,8 @@ module _ (k r f c nf nc : List ℕ) where
       record { k_long = leb-true _ _ a; r_long = leb-true _ _ b; f_long = leb-true _ _ d; c_long = leb-true _ _ g; nf_long = leb-true _ _ i; nc_long = leb-true _ _ j }
 
 -- ---- each rule is compiled as its flag says
--- no rule, no flag
-pub fine_no_rule : (o : Option Formula) (k : ℕ) (m : Option Mon) (q : Bool) → q ≡ is_some o → q ≡ false → false ≡ fine o k m
-fine_no_rule none k m q e h = refl
-fine_no_rule (some f) k m q e h = true_false e h
-
 -- what the compiler answers, for a rule in a table with room
-module _ (ops nums : List ℕ) (first count : ℕ) (k : ℕ) (m : Option Mon) (g : 1024 ≤ length ops) (h : 1024 ≤ length nums) (q : Bool) (z : q ≡ is_some (rule_of ops nums first count)) (y : q ≡ true) (out : List ℕ) (l : 1792 ≤ length out) (a : Compiled) (out' : List ℕ) (w : Answers (compile_call ops nums first count out) a out') where
+module _ (ops nums : List ℕ) (first count : ℕ) (k : ℕ) (m : Option Mon) (g : 1024 ≤ length ops) (h : 1024 ≤ length nums) (q : Bool) (z : q ≡ is_some (rule_of ops nums first count)) (y : q ≡ true) (out : List ℕ) (l : 1792 ≤ length out) (a : Returned ℕ Refusal) (out' : List ℕ) (w : Answers (compile_call ops nums first count out) a out') where
   the_rule : (f : Formula) × (rule_of ops nums first count ≡ some f)
   the_rule = go (rule_of ops nums first count) refl (sym z ∙ y)
     where
@@ -95,80 +69,52 @@ module _ (ops nums : List ℕ) (first count : ℕ) (k : ℕ) (m : Option Mon) (g
       ap₂ (λ (x y : Bool). or_short (x && y) out (rule_call ops nums first count out)) (sym (both_long ops nums g h)) (le-leb 1792 (length out) l)
       ∙ ap (λ (o : Option Formula). compile_formula o first out) the_rule.1
 
-  answered : result_of a ≡ (first_or (rule_faults the_rule.0) (rule_node the_rule.0 first) out).answer
+  answered : told a ≡ (first_or (rule_faults the_rule.0) (rule_node the_rule.0 first) out).answer
   answered = w.answers ∙ ap (λ (c : Call). c.answer) called
 
   by_faults : fine (rule_of ops nums first count) k m ≡ agrees (rule_faults the_rule.0) k m
   by_faults = ap (λ (o : Option Formula). fine o k m) the_rule.1
 
-  module _ (n : ℕ) (x : a ≡ Nodes n) where
+  module _ (n : ℕ) (x : a ≡ Ok n) where
     compiles : rule_faults the_rule.0 ≡ []
-    compiles = go (rule_faults the_rule.0) refl (sym (ap result_of x) ∙ answered)
+    compiles = go (rule_faults the_rule.0) refl (sym (ap told x) ∙ answered)
       where
-        go : (fs : List ℕ) → rule_faults the_rule.0 ≡ fs → given n ≡ (first_or fs (rule_node the_rule.0 first) out).answer → rule_faults the_rule.0 ≡ []
+        go : (fs : List Refusal) → rule_faults the_rule.0 ≡ fs → given n ≡ (first_or fs (rule_node the_rule.0 first) out).answer → rule_faults the_rule.0 ≡ []
         go [] e v = e
         go (j ∷ js) e v = let t : ◌≡◌ {A = ℕ} 0 1 = cc in absurd (omega arith)
 
-    pub fine_flagged : (k ≡ 0 → ⊥) → false ≡ fine (rule_of ops nums first count) k m
-    fine_flagged e = sym (by_faults ∙ ap (λ (fs : List ℕ). agrees fs k m) compiles ∙ ap (λ (b : Bool). b && is_some m) (ne_eqb k 0 e))
+    pub fine_flagged : (k ≡ 0 → ⊥) → eqb k 0 ≡ fine (rule_of ops nums first count) k m
+    fine_flagged e = ne_eqb k 0 e ∙ sym (by_faults ∙ ap (λ (fs : List Refusal). agrees fs k m) compiles ∙ ap (λ (b : Bool). b && is_some m) (ne_eqb k 0 e))
 
     pub fine_compiled : k ≡ 0 → (b : Bool) → b ≡ is_some m → b ≡ fine (rule_of ops nums first count) k m
-    fine_compiled e b v = v ∙ sym (by_faults ∙ ap (λ (fs : List ℕ). agrees fs k m) compiles ∙ ap (λ (b : Bool). b && is_some m) (eq-eqb k 0 e))
+    fine_compiled e b v = v ∙ sym (by_faults ∙ ap (λ (fs : List Refusal). agrees fs k m) compiles ∙ ap (λ (b : Bool). b && is_some m) (eq-eqb k 0 e))
 
-  module _ (n : ℕ) (x : a ≡ Refused n) where
-    refuses : agrees (rule_faults the_rule.0) k m ≡ (not (eqb k 0) && eqb k n)
-    refuses = go (rule_faults the_rule.0) (sym (ap result_of x) ∙ answered)
+  module _ (n : Refusal) (x : a ≡ Err n) where
+    refuses : agrees (rule_faults the_rule.0) k m ≡ (not (eqb k 0) && eqb k (number_of n))
+    refuses = go (rule_faults the_rule.0) (sym (ap told x) ∙ answered)
       where
-        go : (fs : List ℕ) → refused n ≡ (first_or fs (rule_node the_rule.0 first) out).answer → agrees fs k m ≡ (not (eqb k 0) && eqb k n)
+        go : (fs : List Refusal) → refused (number_of n) ≡ (first_or fs (rule_node the_rule.0 first) out).answer → agrees fs k m ≡ (not (eqb k 0) && eqb k (number_of n))
         go [] v = let t : ◌≡◌ {A = ℕ} 0 1 = cc in absurd (omega arith)
-        go (j ∷ js) v = let t : n ≡ j = cc in ap (λ (i : ℕ). not (eqb k 0) && eqb k i) (sym t)
+        go (j ∷ js) v = let t : number_of n ≡ number_of j = cc in ap (λ (i : ℕ). not (eqb k 0) && eqb k i) (sym t)
 
-    pub fine_unflagged : k ≡ 0 → false ≡ fine (rule_of ops nums first count) k m
-    fine_unflagged e = sym (by_faults ∙ refuses ∙ ap (λ (b : Bool). not b && eqb k n) (eq-eqb k 0 e))
+    pub fine_unflagged : k ≡ 0 → not (eqb k 0) ≡ fine (rule_of ops nums first count) k m
+    fine_unflagged e = ap not (eq-eqb k 0 e) ∙ sym (by_faults ∙ refuses ∙ ap (λ (b : Bool). not b && eqb k (number_of n)) (eq-eqb k 0 e))
 
-    pub fine_refused : (k ≡ 0 → ⊥) → eqb k n ≡ fine (rule_of ops nums first count) k m
-    fine_refused e = sym (by_faults ∙ refuses ∙ ap (λ (b : Bool). not b && eqb k n) (ne_eqb k 0 e))
+    pub fine_refused : (j : ℕ) → j ≡ number_of n → (k ≡ 0 → ⊥) → eqb k j ≡ fine (rule_of ops nums first count) k m
+    fine_refused j i e = ap (eqb k) i ∙ sym (by_faults ∙ refuses ∙ ap (λ (b : Bool). not b && eqb k (number_of n)) (ne_eqb k 0 e))
 
 -- where flag 0 agrees, the nodes hold a compiled rule
 flag_zero : (o : Option Formula) (k : ℕ) (m : Option Mon) → eqb k 0 ≡ true → fine o k m ≡ true → is_some m ≡ true
 flag_zero none k m c e = true_false e refl
 flag_zero (some f) k m c e = go (rule_faults f) e
   where
-    go : (fs : List ℕ) → agrees fs k m ≡ true → is_some m ≡ true
+    go : (fs : List Refusal) → agrees fs k m ≡ true → is_some m ≡ true
     go [] v = (both_true (eqb k 0) (is_some m) v).1
-    go (n ∷ ns) v = true_false (both_true (not (eqb k 0)) (eqb k n) v).0 (ap not c)
+    go (n ∷ ns) v = true_false (both_true (not (eqb k 0)) (eqb k (number_of n)) v).0 (ap not c)
 
-pub record Fining (ops nums refusals firsts counts nfirsts ncounts : List ℕ) (ok : ℕ → Bool) (n r : ℕ) : Type 0 where
-  pub room : InRulesUpto ops nums refusals firsts counts nfirsts ncounts n
-  pub below : r ≤ n
-  pub so_far : all_below ok r ≡ true
-
-module _ (ops nums refusals firsts counts nfirsts ncounts : List ℕ) (ok : ℕ → Bool) (n : ℕ) where
-  pub fining_none : InRulesUpto ops nums refusals firsts counts nfirsts ncounts n → Fining ops nums refusals firsts counts nfirsts ncounts ok n 0
-  fining_none w = record { room = w; below = omega arith; so_far = all_none ok }
-
-  module _ (r : ℕ) (g : Fining ops nums refusals firsts counts nfirsts ncounts ok n r) where
-    pub fining_all : n ≤ r → true ≡ all_below ok n
-    fining_all h = let e : r ≡ n = omega (arith, g.below) in sym (sym (ap (all_below ok) e) ∙ g.so_far)
-
-    module _ (h : r < n) where
-      pub fining_in : InRules ops nums refusals firsts counts nfirsts ncounts r
-      fining_in = record {
-        in_ops = g.room.in_ops;
-        in_nums = g.room.in_nums;
-        in_refusals = omega (arith, g.room.in_refusals);
-        in_firsts = omega (arith, g.room.in_firsts);
-        in_counts = omega (arith, g.room.in_counts);
-        in_nfirsts = omega (arith, g.room.in_nfirsts);
-        in_ncounts = omega (arith, g.room.in_ncounts);
-      }
-
-      module _ (b : Bool) (e : b ≡ ok r) where
-        pub fining_false : b ≡ false → false ≡ all_below ok n
-        fining_false z = all_false ok r n h (sym e ∙ z)
-
-        pub fining_more : b ≡ true → Fining ops nums refusals firsts counts nfirsts ncounts ok n (r + 1)
-        fining_more z = record { room = g.room; below = omega arith; so_far = all_more ok r g.so_far (sym e ∙ z) }
+-- one rule that is not fine is enough
+pub one_not : (ok : ℕ → Bool) (r n : ℕ) (b : Bool) → r < n → b ≡ ok r → b ≡ false → false ≡ all_below ok n
+one_not ok r n b h e z = all_false ok r n h (sym e ∙ z)
 
 -- ---- two ways to know the bits of the rules below n agree, where they compile
 module _ (n : ℕ) (property compiled : ℕ → Bool) (f g : ℕ → ℕ) (h : (r : ℕ) → r < n → compiled r ≡ true → f r ≡ g r) where
@@ -191,17 +137,6 @@ module _ (n : ℕ) (property compiled : ℕ → Bool) (f g : ℕ → ℕ) (h : (
 
 -- ---- room in the tables and in the outputs
 module _ (ops nums nodes kinds refusals firsts counts nfirsts ncounts widths : List ℕ) where
-  module _ (w : Bool) (e : w ≡ roomy_nodes ops nums nodes) where
-    pub tables_narrow : w ≡ false → false ≡ roomy_tables ops nums nodes kinds refusals firsts counts nfirsts ncounts widths
-    tables_narrow h = sym (ap (λ (b : Bool). b && (roomy_rules kinds refusals firsts counts nfirsts ncounts && leb 32 (length widths))) (sym e ∙ h))
-
-    module _ (h : w ≡ true) (v : Bool) (e₂ : v ≡ roomy_rules kinds refusals firsts counts nfirsts ncounts) where
-      pub tables_short : v ≡ false → false ≡ roomy_tables ops nums nodes kinds refusals firsts counts nfirsts ncounts widths
-      tables_short g = sym (ap₂ (λ (a b : Bool). a && (b && leb 32 (length widths))) (sym e ∙ h) (sym e₂ ∙ g))
-
-      pub tables_slots : v ≡ true → leb 32 (length widths) ≡ roomy_tables ops nums nodes kinds refusals firsts counts nfirsts ncounts widths
-      tables_slots g = sym (ap₂ (λ (a b : Bool). a && (b && leb 32 (length widths))) (sym e ∙ h) (sym e₂ ∙ g))
-
   -- what it says
   module _ (w : Bool) (e : w ≡ roomy_tables ops nums nodes kinds refusals firsts counts nfirsts ncounts widths) (h : w ≡ true) where
     nodes_and : (roomy_nodes ops nums nodes ≡ true) × ((roomy_rules kinds refusals firsts counts nfirsts ncounts && leb 32 (length widths)) ≡ true)
@@ -216,76 +151,16 @@ module _ (ops nums nodes kinds refusals firsts counts nfirsts ncounts widths : L
     pub widths_long : 32 ≤ length widths
     widths_long = leb-true _ _ rules_and.1
 
-    pub rules_in : InRulesUpto ops nums refusals firsts counts nfirsts ncounts 64
-    rules_in =
-        let (_, r) = both_true (leb 1792 (length nodes)) (roomy ops nums) nodes_and.0 in
-        let (a, b) = both_true (leb 1024 (length ops)) (leb 1024 (length nums)) r in
-        let o = rules_long in
-        record {
-          in_ops = leb-true _ _ a;
-          in_nums = leb-true _ _ b;
-          in_refusals = o.r_long;
-          in_firsts = o.f_long;
-          in_counts = o.c_long;
-          in_nfirsts = o.nf_long;
-          in_ncounts = o.nc_long;
-        }
-
 module _ (starts bits places : ℕ) where
-  pub outputs_starts : starts < 64 → false ≡ roomy_outputs starts bits places
-  outputs_starts h = rw (lt-leb 64 starts h) refl
-
-  pub outputs_bits : 64 ≤ starts → bits < 64 → false ≡ roomy_outputs starts bits places
-  outputs_bits h g = rw (le-leb 64 starts h, lt-leb 64 bits g) refl
-
-  pub outputs_places : 64 ≤ starts → 64 ≤ bits → leb 32 places ≡ roomy_outputs starts bits places
-  outputs_places h g = rw (le-leb 64 starts h, le-leb 64 bits g) refl
-
   outputs_long : (w : Bool) → w ≡ roomy_outputs starts bits places → w ≡ true → (64 ≤ starts) × ((64 ≤ bits) × (32 ≤ places))
   outputs_long w e h =
       let (a, p) = both_true (leb 64 starts) (leb 64 bits && leb 32 places) (sym e ∙ h) in
       let (b, c) = both_true (leb 64 bits) (leb 32 places) p in
       (leb-true _ _ a, (leb-true _ _ b, leb-true _ _ c))
 
--- ---- what is lent is sound
-module _ (states : ℕ) (widths : List ℕ) (m : ℕ) (rule : ℕ → Option Formula) (refusals : List ℕ) (mon : ℕ → Option Mon) (n : ℕ) (b : Bool) (e : b ≡ opening states widths m) where
-  pub sound_closed : b ≡ false → false ≡ sound states widths m rule refusals mon n
-  sound_closed h = sym (ap (λ (c : Bool). c && (leb n 64 && all_below (fine_of rule refusals mon) n)) (sym e ∙ h))
-
-  module _ (h : b ≡ true) where
-    pub sound_many : 64 < n → false ≡ sound states widths m rule refusals mon n
-    sound_many k = sym (ap₂ (λ (c d : Bool). c && (d && all_below (fine_of rule refusals mon) n)) (sym e ∙ h) (lt-leb _ _ k))
-
-    pub sound_fine : n ≤ 64 → (q : Bool) → q ≡ all_below (fine_of rule refusals mon) n → q ≡ sound states widths m rule refusals mon n
-    sound_fine k q z = z ∙ sym (ap₂ (λ (c d : Bool). c && (d && all_below (fine_of rule refusals mon) n)) (sym e ∙ h) (le-leb _ _ k))
-
-pub fewer_rules : (ops nums refusals firsts counts nfirsts ncounts : List ℕ) (n : ℕ) → InRulesUpto ops nums refusals firsts counts nfirsts ncounts 64 → n ≤ 64
-    → InRulesUpto ops nums refusals firsts counts nfirsts ncounts n
-fewer_rules ops nums refusals firsts counts nfirsts ncounts n w k = record {
-  in_ops = w.in_ops;
-  in_nums = w.in_nums;
-  in_refusals = omega (arith, w.in_refusals);
-  in_firsts = omega (arith, w.in_firsts);
-  in_counts = omega (arith, w.in_counts);
-  in_nfirsts = omega (arith, w.in_nfirsts);
-  in_ncounts = omega (arith, w.in_ncounts);
-}
-
 -- ---- laying out
 module _ (kinds refusals nodes nfirsts ncounts : List ℕ) (n states : ℕ) (widths : List ℕ) (m : ℕ) (starts bits places : List ℕ)
     (w : Layable kinds refusals nodes nfirsts ncounts n states widths m starts bits places) (state vars : ℕ) (a : StateSum states state) (b : SlotSum (take m widths) m vars) where
-  pub base_fits : Fits w64 (state + vars)
-  base_fits = record { fits = omega (arith, a.most, b.most, w.slots.few) }
-
-  pub base_low : state + vars < 2 ^ 63
-  base_low = omega (arith, a.most, b.most, w.slots.few)
-
-  pub state_small : state < 2 ^ 60
-  state_small = omega (arith, a.most)
-
-  pub slots_small : vars < 2 ^ 60
-  slots_small = omega (arith, b.most, w.slots.few)
-
   module _ (monitors : ℕ) (d : MonitorSum n (is_zero refusals) (part_bits nodes nfirsts ncounts) monitors) where
     pub laid : (starts' bits' places' : List ℕ) (r : ConfigEncoding) → places' ≡ sets places 0 (listed (slot_from state (take m widths)) m)
         → Arranged (state + vars) n (is_zero kinds) (is_zero refusals) (part_bits nodes nfirsts ncounts) starts starts' bits bits' → r ≡ encoding_by state vars monitors

@@ -1,14 +1,14 @@
 -- The answers of the calls over one rule.
 use mathlib.Core.Path.{◌≡◌, refl, sym, ap, ap₂, ◌∙◌}
-use mathlib.Core.Bool.{Bool, true, false, ◌&&◌}
+use mathlib.Core.Bool.{Bool, true}
 use mathlib.Core.List.{List}
 use mathlib.Core.Option.{Option, none, some}
 use Prim.Native.Nat.{ℕ, zero, suc, ◌+◌, ◌≤◌, ◌<◌}
-use borrow.Author.Tests.{le-leb, lt-leb, lt-ltb, le-ltb}
+use borrow.Author.Tests.{lt-ltb, le-ltb}
 use lib.Dec.{ltb}
 use lib.ListN.{length}
 use Rattle.result.specs.Result.{given, refused, or_else}
-use Rattle.formula.specs.Table.{roomy, is_some}
+use Rattle.formula.specs.Table.{is_some}
 use Rattle.formula.proofs.Cases.{true_false}
 use Rattle.monitor.specs.Mon.{Mon}
 use Rattle.monitor.specs.Table.{compiled_of}
@@ -19,20 +19,9 @@ use Rattle.plan.specs.declared.layout.Piece.{Piece}
 use Rattle.plan.proofs.Rows.{rows_pieces, over_formula, table_bits, table_part}
 use Rattle.layout.specs.Entry.{roomy_nodes, bits_by, rule_bits_of, slot_by, node_slot_of}
 
-module _ (ops nums nodes : List ℕ) where
-  pub wide_short : length nodes < 1792 → false ≡ roomy_nodes ops nums nodes
-  wide_short h = sym (ap (λ (b : Bool). b && roomy ops nums) (lt-leb _ _ h))
-
-  pub wide_long : (r : Bool) → 1792 ≤ length nodes → r ≡ roomy ops nums → r ≡ roomy_nodes ops nums nodes
-  wide_long r h e = e ∙ sym (ap (λ (b : Bool). b && roomy ops nums) (le-leb _ _ h))
-
 pub some_mon : (q : Bool) (o : Option Mon) → q ≡ is_some o → q ≡ true → (m : Mon) × (o ≡ some m)
 some_mon q none e h = true_false h e
 some_mon q (some m) e h = (m, refl)
-
-pub no_mon : (q : Bool) (o : Option Mon) → q ≡ is_some o → q ≡ false → o ≡ none
-no_mon q none e h = refl
-no_mon q (some m) e h = true_false e h
 
 module _ (ops nums : List ℕ) (first count : ℕ) (nodes : List ℕ) (nfirst ncount : ℕ) where
   rows_length : (i n : ℕ) → length (row_pieces nodes i n) ≡ n
@@ -41,23 +30,7 @@ module _ (ops nums : List ℕ) (first count : ℕ) (nodes : List ℕ) (nfirst nc
   rows_length i (suc n) = ap suc (rows_length (i + 1) n)
 
   module _ (w : Bool) (e : w ≡ roomy_nodes ops nums nodes) where
-    pub bits_short : w ≡ false → refused 1 ≡ rule_bits_of ops nums first count nodes nfirst ncount
-    unfolding rule_bits_of
-    bits_short h = sym (ap (λ (b : Bool). or_else b 1 (bits_by (compiled_of ops nums first count nodes nfirst ncount))) (sym e ∙ h))
-
-    pub slot_short : (j : ℕ) → w ≡ false → refused 1 ≡ node_slot_of ops nums first count nodes nfirst ncount j
-    unfolding node_slot_of
-    slot_short j h = sym (ap (λ (b : Bool). or_else b 1 (slot_by (compiled_of ops nums first count nodes nfirst ncount) j)) (sym e ∙ h))
-
     module _ (h : w ≡ true) (q : Bool) (z : q ≡ is_some (compiled_of ops nums first count nodes nfirst ncount)) where
-      pub bits_none : q ≡ false → refused 2 ≡ rule_bits_of ops nums first count nodes nfirst ncount
-      unfolding rule_bits_of
-      bits_none y = sym (ap₂ (λ (b : Bool) (o : Option Mon). or_else b 1 (bits_by o)) (sym e ∙ h) (no_mon q (compiled_of ops nums first count nodes nfirst ncount) z y))
-
-      pub slot_none : (j : ℕ) → q ≡ false → refused 2 ≡ node_slot_of ops nums first count nodes nfirst ncount j
-      unfolding node_slot_of
-      slot_none j y = sym (ap₂ (λ (b : Bool) (o : Option Mon). or_else b 1 (slot_by o j)) (sym e ∙ h) (no_mon q (compiled_of ops nums first count nodes nfirst ncount) z y))
-
       module _ (y : q ≡ true) where
         pub bits_some : (b : ℕ) → Summed nodes nfirst ncount b → given b ≡ rule_bits_of ops nums first count nodes nfirst ncount
         unfolding rule_bits_of

@@ -1,5 +1,4 @@
 -- What the layout calls answer for what they are lent, with refusals 1 and 2.
---     bits_result, slot_result, laid_result    document 01's result of each answer enum
 --     rule_bits_of    the bits of a rule
 --     node_slot_of    a node's own bits and where they begin, counted from the rule's first bit
 --     layout_of      a book: the numbers of the whole, and the outputs afterwards, which are the first bits and the bits of the rules and the
@@ -10,6 +9,8 @@ use Rattle.std.proofs.lemmas.List.Edits.{sets}
 use Rattle.terms.specs.Limits.{book_nodes, book_rules, book_slots, state_counts, node_cells}
 use Rattle.terms.specs.Choice.{pick}
 use Rattle.result.specs.Result.{Result, given, refused, or_else}
+use Rattle.result.specs.Refusal.{number_of}
+use Rattle.result.specs.declared.Refusal.{Refusal}
 use Rattle.formula.specs.Formula.{Formula}
 use Rattle.formula.specs.Table.{roomy, is_some, rule_of}
 use Rattle.monitor.specs.Mon.{Mon}
@@ -21,22 +22,12 @@ use Rattle.plan.specs.declared.layout.Slot.{Slot}
 use Rattle.encoding.specs.declared.ConfigEncoding.{ConfigEncoding}
 use Rattle.encoding.specs.Below.{all_below}
 use Rattle.encoding.specs.Encoding.{slot_first, monitors_base, encoding_of, opening, Widths}
-use Rattle.layout.specs.declared.rule.RuleBits.{RuleBits}
-use Rattle.layout.specs.declared.rule.RuleBits.TheVariants.{Bits, Refused as BitsRefused}
-use Rattle.layout.specs.declared.rule.NodeSlot.{NodeSlot}
-use Rattle.layout.specs.declared.rule.NodeSlot.TheVariants.{At, Refused as SlotRefused}
-use Rattle.layout.specs.declared.book.BookLayout.{BookLayout}
-use Rattle.layout.specs.declared.book.BookLayout.TheVariants.{Done, Refused as LaidRefused}
 
 -- refusal 1: 1,024 formula nodes, 256 monitor nodes of seven numbers
 abbrev pub roomy_nodes : List ℕ → List ℕ → List ℕ → Bool
 roomy_nodes ops nums nodes = leb node_cells (length nodes) && roomy ops nums
 
 -- ---- one rule
-abbrev pub bits_result : RuleBits → Result ℕ
-bits_result (Bits n) = given n
-bits_result (BitsRefused n) = refused n
-
 abbrev pub bits_by : Option Mon → Result ℕ
 bits_by none = refused 2
 bits_by (some m) = given (bits m)
@@ -44,10 +35,6 @@ bits_by (some m) = given (bits m)
 unfoldable pub rule_bits_of : List ℕ → List ℕ → ℕ → ℕ → List ℕ → ℕ → ℕ → Result ℕ
 rule_bits_of ops nums first count nodes nfirst ncount =
     or_else (roomy_nodes ops nums nodes) 1 (bits_by (compiled_of ops nums first count nodes nfirst ncount))
-
-abbrev pub slot_result : NodeSlot → Result Slot
-slot_result (At s) = given s
-slot_result (SlotRefused n) = refused n
 
 -- a number that is no node's is 2
 abbrev pub slot_by : Option Mon → ℕ → Result Slot
@@ -87,18 +74,14 @@ bits_in none = 0
 bits_in (some m) = bits m
 
 -- the flag k says what compiling says: 0 where no refusal applies, and the nodes hold a compiled rule; else the first refusal
-abbrev pub agrees : List ℕ → ℕ → Option Mon → Bool
+abbrev pub agrees : List Refusal → ℕ → Option Mon → Bool
 agrees [] k m = eqb k 0 && is_some m
-agrees (n ∷ ns) k m = not (eqb k 0) && eqb k n
+agrees (n ∷ ns) k m = not (eqb k 0) && eqb k (number_of n)
 
 -- what is no rule agrees with no flag
 abbrev pub fine : Option Formula → ℕ → Option Mon → Bool
 fine none k m = false
 fine (some f) k m = agrees (rule_faults f) k m
-
-abbrev pub laid_result : BookLayout → Result ConfigEncoding
-laid_result (Done e) = given e
-laid_result (LaidRefused n) = refused n
 
 -- the result, and the three outputs afterwards
 pub data Outcome : Type 0 where

@@ -9,12 +9,13 @@ ghost use Rattle.node_table.specs.Node.{ops_of, nums_of};
 ghost use Rattle.split.specs.Held.{outcome, splitting};
 ghost use Rattle.table_step.specs.Over.{tables_over};
 
-use compiler::Compiled;
 use in_place::ReferenceMonitor;
 use in_place::fresh::Started;
 use in_place::step::Advanced;
+use monitor::table::Part;
 use node_table::FormulaNode;
-use split::parts::Liveness;
+use result::Refusal;
+use split::parts::Parts;
 use table_calls::{compile_table, split_table};
 use table_step::{fresh_table, step_table};
 use terms::limit::BOOK_NODES;
@@ -23,17 +24,14 @@ use terms::limit::BOOK_NODES;
 pub fn step_over(
     mut m: ReferenceMonitor,
     table: [FormulaNode; BOOK_NODES],
-    first: usize,
-    count: usize,
     nodes: &[u64],
-    nfirst: usize,
-    ncount: usize,
+    part: Part,
     s: u64,
     w: u64,
 ) -> Advanced
-    ensures { result ≡ step_in (tables_over table first count nodes.now nfirst ncount) m s w }
+    ensures { result ≡ step_in (tables_over table part.first part.count nodes.now part.nfirst part.ncount) m s w }
 {
-    let verdict = step_table(&mut m, &table, first, count, nodes, nfirst, ncount, s, w);
+    let verdict = step_table(&mut m, &table, nodes, part, s, w);
     Advanced {
         monitor: m,
         verdict,
@@ -44,15 +42,12 @@ pub fn step_over(
 pub fn fresh_over(
     mut m: ReferenceMonitor,
     table: [FormulaNode; BOOK_NODES],
-    first: usize,
-    count: usize,
     nodes: &[u64],
-    nfirst: usize,
-    ncount: usize,
+    part: Part,
 ) -> Started
-    ensures { result ≡ fresh_in (tables_over table first count nodes.now nfirst ncount) m }
+    ensures { result ≡ fresh_in (tables_over table part.first part.count nodes.now part.nfirst part.ncount) m }
 {
-    let outcome = fresh_table(&mut m, &table, first, count, nodes, nfirst, ncount);
+    let outcome = fresh_table(&mut m, &table, nodes, part);
     Started {
         monitor: m,
         outcome,
@@ -65,7 +60,7 @@ pub fn compile_over(
     first: usize,
     count: usize,
     out: &mut [u64],
-) -> Compiled
+) -> Result<usize, Refusal>
     ensures { Answers (compile_call (ops_of table) (nums_of table) first count out.old) result out.new }
 {
     compile_table(&table, first, count, out)
@@ -79,7 +74,7 @@ pub fn split_over(
     assumed: bool,
     skeleton: &mut [u64],
     owed: &mut [u64],
-) -> Liveness
+) -> Result<Option<Parts>, Refusal>
     ensures { outcome result skeleton.new owed.new
         ≡ splitting (ops_of table) (nums_of table) first count assumed skeleton.old owed.old }
 {

@@ -6,15 +6,16 @@ ghost use Rattle.node_table.specs.Node.{ops_of, nums_of};
 ghost use Rattle.reader.specs.Answer.{Reads};
 ghost use Rattle.reader.specs.BookTables.{columns, slot_columns};
 
+use book::check::Refused;
 use node_table::FormulaNode;
-use reader::read::Answer;
+use reader::read::Read;
 use table_read::read_table;
 use terms::limit::BOOK_NODES;
 
 // The answer, and the table as reading leaves it.
 #[derive(Drop)]
 pub struct ReadOver {
-    pub answer: Answer,
+    pub answer: Result<Read, Refused>,
     pub table: [FormulaNode; BOOK_NODES],
 }
 

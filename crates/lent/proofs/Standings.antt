@@ -4,7 +4,7 @@ use mathlib.Core.Path.{◌≡◌, refl, sym, ap, ap₂, subst, ◌∙◌}
 use mathlib.Core.Bool.{Bool, true, false, ◌&&◌}
 use mathlib.Core.List.{List}
 use mathlib.Core.Option.{Option, none, some}
-use Prim.Native.Nat.{ℕ, zero, suc, ◌+◌, ◌-◌, ◌*◌, ◌≤◌}
+use Prim.Native.Nat.{ℕ, zero, suc, ◌+◌, ◌*◌, ◌≤◌}
 use native.Mathlib.Omega.{arith}
 use native.Mathlib.Nat.{add-zero, zero-add}
 use lib.Dec.{eqb, leb}
@@ -21,8 +21,7 @@ use Rattle.monitor.specs.declared.node.SignalExpr.{SignalExpr}
 use Rattle.monitor.specs.declared.node.SignalExpr.TheVariants.{True, At}
 use Rattle.monitor.specs.declared.node.MonNode.{MonNode}
 use Rattle.monitor.specs.declared.node.MonNode.TheVariants.{RangeCheck, DelayedCheck, Obligation, And as AndNode, Or as OrNode}
-use Rattle.monitor.specs.declared.node.Row.{Row}
-use Rattle.monitor.specs.declared.node.Row.TheVariants.{Node, Unknown}
+use Rattle.std.specs.Prelude.{None, Option as Opt, Some}
 use Rattle.monitor.specs.Mon.{Signal, Check, range_check, delayed_check, obligation, Mon, check, And, Or, count, expr_of, node_of}
 use Rattle.monitor.specs.Table.{row_of, signal_of, Never, Join, join_and, join_or, Cell, checked, cell_of, cell_by, cells, from_tree, compiled_of}
 use Rattle.monitor.proofs.Signals.{signal_inv}
@@ -60,49 +59,49 @@ module _ (ops nums : List ℕ) (first count' : ℕ) (f : Formula) (u : Rule ops 
   leaf_not_two : {a : Check} {j : Join} {B : Type 0} → ◌≡◌ {A = Cell} (leaf_of a) (two_of j) → B
   leaf_not_two e = let z : ◌≡◌ {A = ℕ} 0 1 = cc in absurd (omega arith)
 
-  cell_leaf : (r : Row) (c : Check) → cell_of f first r ≡ leaf_of c → (r ≡ Node (node_of c)) × GroundedCheck ops nums c
-  cell_leaf (Node (RangeCheck s rg)) c e =
+  cell_leaf : (r : Opt MonNode) (c : Check) → cell_of f first r ≡ leaf_of c → (r ≡ Some (node_of c)) × GroundedCheck ops nums c
+  cell_leaf (Some (RangeCheck s rg)) c e =
       let (x, p, q) = checked_inv (λ y. leaf_of (range_check y rg)) (signal_of f first s) (leaf_of c) (leaf_known c) e in
       let (u, v) = signal_stands s x p in
-      subst (λ (y : Check). (Node (RangeCheck s rg) ≡ Node (node_of y)) × GroundedCheck ops nums y) (leaf_inj q) (ap (λ (z : SignalExpr). Node (RangeCheck z rg)) (sym u), v)
-  cell_leaf (Node (DelayedCheck s t rg)) c e =
+      subst (λ (y : Check). (Some (RangeCheck s rg) ≡ Some (node_of y)) × GroundedCheck ops nums y) (leaf_inj q) (ap (λ (z : SignalExpr). Some (RangeCheck z rg)) (sym u), v)
+  cell_leaf (Some (DelayedCheck s t rg)) c e =
       let (x, p, q) = checked_inv (λ y. checked (λ z. leaf_of (delayed_check y z rg)) (signal_of f first t)) (signal_of f first s) (leaf_of c) (leaf_known c) e in
       let (x', p', q') = checked_inv (λ z. leaf_of (delayed_check x z rg)) (signal_of f first t) (leaf_of c) (leaf_known c) q in
       let (u, v) = signal_stands s x p in
       let (u', v') = signal_stands t x' p' in
-      subst (λ (y : Check). (Node (DelayedCheck s t rg) ≡ Node (node_of y)) × GroundedCheck ops nums y) (leaf_inj q') (ap₂ (λ (z z' : SignalExpr). Node (DelayedCheck z z' rg)) (sym u) (sym u'), (v, v'))
-  cell_leaf (Node (Obligation b s t rg)) c e =
+      subst (λ (y : Check). (Some (DelayedCheck s t rg) ≡ Some (node_of y)) × GroundedCheck ops nums y) (leaf_inj q') (ap₂ (λ (z z' : SignalExpr). Some (DelayedCheck z z' rg)) (sym u) (sym u'), (v, v'))
+  cell_leaf (Some (Obligation b s t rg)) c e =
       let (x, p, q) = checked_inv (λ y. checked (λ z. leaf_of (obligation b y z rg)) (signal_of f first t)) (signal_of f first s) (leaf_of c) (leaf_known c) e in
       let (x', p', q') = checked_inv (λ z. leaf_of (obligation b x z rg)) (signal_of f first t) (leaf_of c) (leaf_known c) q in
       let (u, v) = signal_stands s x p in
       let (u', v') = signal_stands t x' p' in
-      subst (λ (y : Check). (Node (Obligation b s t rg) ≡ Node (node_of y)) × GroundedCheck ops nums y) (leaf_inj q') (ap₂ (λ (z z' : SignalExpr). Node (Obligation b z z' rg)) (sym u) (sym u'), (v, v'))
-  cell_leaf (Node AndNode) c e = leaf_not_two (sym e)
-  cell_leaf (Node OrNode) c e = leaf_not_two (sym e)
-  cell_leaf Unknown c e = absurd (leaf_known c (sym e))
+      subst (λ (y : Check). (Some (Obligation b s t rg) ≡ Some (node_of y)) × GroundedCheck ops nums y) (leaf_inj q') (ap₂ (λ (z z' : SignalExpr). Some (Obligation b z z' rg)) (sym u) (sym u'), (v, v'))
+  cell_leaf (Some AndNode) c e = leaf_not_two (sym e)
+  cell_leaf (Some OrNode) c e = leaf_not_two (sym e)
+  cell_leaf None c e = absurd (leaf_known c (sym e))
 
   abbrev row_join : Join → MonNode
   row_join join_and = AndNode
   row_join join_or = OrNode
 
-  cell_two : (r : Row) (j : Join) → cell_of f first r ≡ two_of j → r ≡ Node (row_join j)
-  cell_two (Node (RangeCheck s rg)) j e =
+  cell_two : (r : Opt MonNode) (j : Join) → cell_of f first r ≡ two_of j → r ≡ Some (row_join j)
+  cell_two (Some (RangeCheck s rg)) j e =
       let (x, p, q) = checked_inv (λ y. leaf_of (range_check y rg)) (signal_of f first s) (two_of j) (two_known j) e in leaf_not_two q
-  cell_two (Node (DelayedCheck s t rg)) j e =
+  cell_two (Some (DelayedCheck s t rg)) j e =
       let (x, p, q) = checked_inv (λ y. checked (λ z. leaf_of (delayed_check y z rg)) (signal_of f first t)) (signal_of f first s) (two_of j) (two_known j) e in
       let (x', p', q') = checked_inv (λ z. leaf_of (delayed_check x z rg)) (signal_of f first t) (two_of j) (two_known j) q in leaf_not_two q'
-  cell_two (Node (Obligation b s t rg)) j e =
+  cell_two (Some (Obligation b s t rg)) j e =
       let (x, p, q) = checked_inv (λ y. checked (λ z. leaf_of (obligation b y z rg)) (signal_of f first t)) (signal_of f first s) (two_of j) (two_known j) e in
       let (x', p', q') = checked_inv (λ z. leaf_of (obligation b x z rg)) (signal_of f first t) (two_of j) (two_known j) q in leaf_not_two q'
-  cell_two (Node AndNode) j e = ap (λ (y : Join). Node (row_join y)) (two_inj e)
+  cell_two (Some AndNode) j e = ap (λ (y : Join). Some (row_join y)) (two_inj e)
     where
       two_inj : {a b : Join} → ◌≡◌ {A = Cell} (two_of a) (two_of b) → a ≡ b
       two_inj h = cc
-  cell_two (Node OrNode) j e = ap (λ (y : Join). Node (row_join y)) (two_inj e)
+  cell_two (Some OrNode) j e = ap (λ (y : Join). Some (row_join y)) (two_inj e)
     where
       two_inj : {a b : Join} → ◌≡◌ {A = Cell} (two_of a) (two_of b) → a ≡ b
       two_inj h = cc
-  cell_two Unknown j e = absurd (two_known j (sym e))
+  cell_two None j e = absurd (two_known j (sym e))
 
 count_tree : (t : Tree Check Never Join) → count (from_tree t) ≡ size t
 unfolding from_tree count size
@@ -180,8 +179,8 @@ module _ (nodes : List ℕ) (nfirst : ℕ) (forms bounds : List ℕ) (mem : Memo
       let o : 1 + a + b ≡ suc (a + b) = omega arith in
       ap (shaped_from nodes nfirst forms bounds mem k) o ∙ ap (row_fits (row_of nodes (nfirst + k)) (get_or forms k 0) (get_or bounds k 0) (get mem k) &&◌) (shaped_append a (k + 1) b)
 
-  here_fits : (k : ℕ) (x : MonNode) → row_of nodes (nfirst + k) ≡ Node x → row_fits (row_of nodes (nfirst + k)) (get_or forms k 0) (get_or bounds k 0) (get mem k) ≡ entry_fits x (get_or forms k 0) (get_or bounds k 0) (get mem k)
-  here_fits k x e = ap (λ (r : Row). row_fits r (get_or forms k 0) (get_or bounds k 0) (get mem k)) e
+  here_fits : (k : ℕ) (x : MonNode) → row_of nodes (nfirst + k) ≡ Some x → row_fits (row_of nodes (nfirst + k)) (get_or forms k 0) (get_or bounds k 0) (get mem k) ≡ entry_fits x (get_or forms k 0) (get_or bounds k 0) (get mem k)
+  here_fits k x e = ap (λ (r : Opt MonNode). row_fits r (get_or forms k 0) (get_or bounds k 0) (get mem k)) e
 
   pub rows_fit_lem : (ops nums : List ℕ) (m : Mon) (k : ℕ) → NodesAt ops nums nodes (nfirst + k) m → shaped_from nodes nfirst forms bounds mem k (count m) ≡ fits_mon m forms bounds mem k
   unfolding NodesAt shaped_from fits_mon count

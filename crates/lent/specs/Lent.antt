@@ -4,9 +4,12 @@
 --     Ready        a monitor that a call over such tables takes, below 2^63
 --     refusal_of    1, then 2, of what a call on a monitor is lent
 use Rattle.std.specs.Prelude.{Bool, true, ◌&&◌, List, ◌≡◌, ℕ, ◌+◌, ◌*◌, ◌≤◌, eqb, leb, length}
+use Rattle.std.specs.Prelude.{None, Option as Opt, Some}
 use Rattle.std.proofs.Math.Option.{Option, none, some}
 use Rattle.terms.specs.Choice.{pick}
 use Rattle.terms.specs.Limits.{node_cells, row_cells, rule_nodes}
+use Rattle.result.specs.declared.Refusal.{Refusal}
+use Rattle.result.specs.declared.Refusal.TheVariants.{Short, Unfit}
 use Rattle.formula.specs.Table.{roomy}
 use Rattle.monitor.specs.Mon.{Mon, count}
 use Rattle.monitor.specs.Table.{compiled_of}
@@ -80,13 +83,13 @@ pub record Ready (k : LentMonitor) (m : Mon) : Type 0 where
   pub fit : fits m k ≡ true
   pub room : monitor_room k.forms k.bounds k.memory ≡ true
 
--- the refusal of what a call on a monitor is lent: 1, then 2; 0 where there is none
-abbrev pub unfit : Option Mon → LentMonitor → ℕ
-unfit none k = 2
-unfit (some m) k = pick (fits m k) 0 2
+-- the refusal of what a call on a monitor is lent, if there is one: 1, then 2
+abbrev pub unfit : Option Mon → LentMonitor → Opt Refusal
+unfit none k = Some Unfit
+unfit (some m) k = pick (fits m k) None (Some Unfit)
 
-unfoldable pub refusal_of : LentTables → LentMonitor → ℕ
-refusal_of t k = pick (is_lent t k) (unfit (rule_mon t) k) 1
+unfoldable pub refusal_of : LentTables → LentMonitor → Opt Refusal
+refusal_of t k = pick (is_lent t k) (unfit (rule_mon t) k) (Some Short)
 
 -- the same by n rows of a node table from row `nfirst` on: how the test goes
 abbrev pub rows_fit : List ℕ → ℕ → ℕ → LentMonitor → Bool

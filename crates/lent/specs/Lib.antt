@@ -2,3 +2,4 @@
 pub mod Nodes
 pub mod Shape
 pub mod Lent
+pub mod Lists

@@ -8,8 +8,7 @@ use Rattle.std.proofs.Math.Bool as bool
 use Rattle.terms.specs.Forms.{range_form, delayed_form, obligation_form, and_form, or_form}
 use Rattle.monitor.specs.declared.node.MonNode.{MonNode}
 use Rattle.monitor.specs.declared.node.MonNode.TheVariants.{RangeCheck, DelayedCheck, Obligation, And as AndNode, Or as OrNode}
-use Rattle.monitor.specs.declared.node.Row.{Row}
-use Rattle.monitor.specs.declared.node.Row.TheVariants.{Node, Unknown}
+use Rattle.std.specs.Prelude.{None, Option, Some}
 use Rattle.monitor.specs.Mon.{Mon, check, And, Or, count, node_of}
 use Rattle.monitor.specs.Table.{row_of}
 use Rattle.node_step.specs.declared.state.MonState.{MonState}
@@ -57,9 +56,9 @@ fits_mon (Or m n) forms bounds mem k =
     && (fits_mon m forms bounds mem (k + 1) && fits_mon n forms bounds mem (k + 1 + count m))
 
 -- ---- over the rows of a table
-abbrev pub row_fits : Row → ℕ → ℕ → MonState → Bool
-row_fits Unknown form bound st = false
-row_fits (Node n) form bound st = entry_fits n form bound st
+abbrev pub row_fits : Option MonNode → ℕ → ℕ → MonState → Bool
+row_fits None form bound st = false
+row_fits (Some n) form bound st = entry_fits n form bound st
 
 -- n nodes from node k on
 unfoldable pub shaped_from : List ℕ → ℕ → List ℕ → List ℕ → Memory → ℕ → ℕ → Bool

@@ -4,3 +4,11 @@
 pub mod refusal;
 pub mod room;
 pub mod shape;
+
+// What no step changes of a lent monitor: the count of its nodes, and their forms and bounds.
+#[derive(Clone, Copy)]
+pub struct Frame<'a> {
+    pub size: usize,
+    pub forms: &'a [u64],
+    pub bounds: &'a [u64],
+}

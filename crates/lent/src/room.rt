@@ -1,56 +1,36 @@
 // Document 01, refusal 1: whether tables and a monitor that are lent have room.
-ghost use Rattle.std.specs.Prelude.{◌≡◌, true, false};
-ghost use Rattle.node_step.specs.Memory.{entries};
-ghost use Rattle.lent.specs.Lent.{has_room, lent_of};
+ghost use Rattle.std.specs.Prelude.{◌≡◌, length};
+ghost use Rattle.node_step.specs.Lists.{entries_of};
+ghost use Rattle.lent.specs.Lent.{has_room, lent_of, table_room};
 
-use formula::table::is_roomy;
+use monitor::table::Tables;
+use node_step::state::Entries;
 use terms::limit::{NODE_CELLS, RULE_NODES};
 
-// Whether the lent entries have room for 256 nodes.
-fn has_room(held: &[bool], remaining: &[u64], failed: &[bool], culprits: &[i64]) -> bool
-    ensures { result ≡ has_room (entries held.now remaining.now failed.now culprits.now) }
+// Whether the tables have room for 1,024 formula nodes and 256 monitor nodes.
+fn has_table_room(tables: &Tables) -> bool
+    ensures { result ≡ table_room tables.now.formulas.ops.now tables.now.formulas.nums.now tables.now.nodes.now }
 {
-    if held.len() < RULE_NODES {
-        return false;
-    }
-    if remaining.len() < RULE_NODES {
-        return false;
-    }
-    if failed.len() < RULE_NODES {
-        return false;
-    }
-    if culprits.len() < RULE_NODES {
-        return false;
-    }
-    true
+    NODE_CELLS <= tables.nodes.len() && tables.formulas.is_roomy()
+}
+
+// Whether the lent entries have room for 256 nodes.
+fn has_room(entries: &Entries) -> bool
+    ensures { result ≡ has_room (entries_of entries.now) }
+{
+    RULE_NODES <= entries.held.len()
+        && RULE_NODES <= entries.remaining.len()
+        && RULE_NODES <= entries.failed.len()
+        && RULE_NODES <= entries.culprits.len()
 }
 
 // Whether all that is lent has room.
-pub fn is_lent(
-    ops: &[u8],
-    nums: &[u64],
-    nodes: &[u64],
-    forms: &[u64],
-    bounds: &[u64],
-    held: &[bool],
-    remaining: &[u64],
-    failed: &[bool],
-    culprits: &[i64],
-) -> bool
-    ensures { result ≡ lent_of ops.now nums.now nodes.now forms.now bounds.now
-        (entries held.now remaining.now failed.now culprits.now) }
+pub fn is_lent(tables: &Tables, forms: &[u64], bounds: &[u64], entries: &Entries) -> bool
+    ensures { result ≡ lent_of tables.now.formulas.ops.now tables.now.formulas.nums.now tables.now.nodes.now
+        forms.now bounds.now (entries_of entries.now) }
 {
-    if nodes.len() < NODE_CELLS {
-        return false;
-    }
-    if is_roomy(ops, nums) {
-        if forms.len() < RULE_NODES {
-            return false;
-        }
-        if bounds.len() < RULE_NODES {
-            return false;
-        }
-        return has_room(held, remaining, failed, culprits);
-    }
-    false
+    has_table_room(tables)
+        && RULE_NODES <= forms.len()
+        && RULE_NODES <= bounds.len()
+        && has_room(entries)
 }

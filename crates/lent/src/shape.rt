@@ -1,166 +1,64 @@
 // Document 01, refusal 2, of a lent monitor: each entry is tested against its node.
 ghost use Rattle.std.specs.Prelude.{◌≡◌, true, false, ◌+◌, ◌*◌, ◌≤◌, ◌<◌};
-ghost use Rattle.node_step.specs.Memory.{entries};
+ghost use Rattle.node_step.specs.Lists.{entries_of};
 ghost use Rattle.lent.specs.Shape.{is_minus_one, from_minus_one, window_kept, blameless_fits, joined_fits, owed_fits, entry_fits, row_fits, shaped_from};
-ghost use Rattle.lent.specs.Lent.{Spanned, rows_fit, monitor_of};
+ghost use Rattle.lent.specs.Lent.{Spanned, rows_fit};
+ghost use Rattle.lent.specs.Lists.{lent_monitor};
 
-use monitor::node::{MonNode, Row, row_at};
-use node_step::state::{MonState, load};
+use crate::Frame;
+use monitor::node::{MonNode, row_at};
+use monitor::table::Part;
+use node_step::state::{Entries, MonState};
 use terms::form::{AND, DELAYED, OBLIGATION, OR, RANGE};
-
-fn is_minus_one(c: i64) -> bool
-    ensures { result ≡ is_minus_one c }
-{
-    if c < 0 {
-        if c < -1 {
-            return false;
-        }
-        return true;
-    }
-    false
-}
-
-fn is_culprit(c: i64) -> bool
-    ensures { result ≡ from_minus_one c }
-{
-    if c < -1 {
-        return false;
-    }
-    true
-}
 
 // An open window has from 1 to the bound steps left.
 fn is_window(b: u64, st: MonState) -> bool
     ensures { result ≡ window_kept b st }
 {
-    if st.held {
-        if st.failed {
-            return true;
-        }
-        let left = st.remaining;
-        if left < 1 {
-            return false;
-        }
-        return left <= b;
-    }
-    true
+    !st.held || st.failed || 1 <= st.remaining && st.remaining <= b
 }
 
-// An obligation's entry.
-fn fits_owed(b: u64, form: u64, bound: u64, st: MonState) -> bool
-    ensures { result ≡ owed_fits b form bound st }
-{
-    if form == OBLIGATION {
-        if bound == b {
-            if is_culprit(st.culprit) {
-                return is_window(b, st);
-            }
-        }
-    }
-    false
-}
-
-// The entry of a node whose form is the number given, with a culprit of minus 1.
-fn fits_blameless(form: u64, wanted: u64, st: MonState) -> bool
-    ensures { result ≡ blameless_fits form wanted st }
-{
-    if form == wanted {
-        return is_minus_one(st.culprit);
-    }
-    false
-}
-
-// The entry of a joined node.
-fn fits_joined(form: u64, wanted: u64, st: MonState) -> bool
-    ensures { result ≡ joined_fits form wanted st }
-{
-    if form == wanted {
-        return is_culprit(st.culprit);
-    }
-    false
-}
-
+// Whether an entry, with the form and the bound that the monitor remembers, fits its node.
 fn fits_node(node: MonNode, form: u64, bound: u64, st: MonState) -> bool
     ensures { result ≡ entry_fits node form bound st }
 {
     match node {
-        MonNode::RangeCheck { expr: _, range: _ } => fits_blameless(form, RANGE, st),
-        MonNode::DelayedCheck {
-            antecedent: _,
-            consequent: _,
-            range: _,
-        } => fits_blameless(form, DELAYED, st),
-        MonNode::Obligation {
-            bound: b,
-            trigger: _,
-            body: _,
-            range: _,
-        } => fits_owed(b, form, bound, st),
-        MonNode::And => fits_joined(form, AND, st),
-        MonNode::Or => fits_joined(form, OR, st),
+        MonNode::RangeCheck { .. } => form == RANGE && st.culprit == -1,
+        MonNode::DelayedCheck { .. } => form == DELAYED && st.culprit == -1,
+        MonNode::Obligation { bound: b, .. } => {
+            form == OBLIGATION && bound == b && -1 <= st.culprit && is_window(b, st)
+        }
+        MonNode::And => form == AND && -1 <= st.culprit,
+        MonNode::Or => form == OR && -1 <= st.culprit,
     }
 }
 
-fn fits_row(row: Row, form: u64, bound: u64, st: MonState) -> bool
+fn fits_row(row: Option<MonNode>, form: u64, bound: u64, st: MonState) -> bool
     ensures { result ≡ row_fits row form bound st }
 {
-    let Row::Node(node) = row else {
-        return false;
-    };
-    fits_node(node, form, bound, st)
+    row.is_some_and(|node| fits_node(node, form, bound, st))
 }
 
-// Whether the first n entries fit their nodes.
-fn is_shaped(
-    nodes: &[u64],
-    nfirst: usize,
-    forms: &[u64],
-    bounds: &[u64],
-    held: &[bool],
-    remaining: &[u64],
-    failed: &[bool],
-    culprits: &[i64],
-    n: usize,
-) -> bool
-    requires { Spanned nodes.now nfirst forms.now bounds.now (entries held.now remaining.now failed.now culprits.now) n }
-    ensures { result ≡ shaped_from nodes.now nfirst forms.now bounds.now
-        (entries held.now remaining.now failed.now culprits.now) 0 n }
-{
-    let mut k = 0;
-    while k < n {
-        let st = load(held, remaining, failed, culprits, k);
-        let row = row_at(nodes, nfirst + k);
-        if fits_row(row, forms[k], bounds[k], st) {
-            k += 1;
-        } else {
-            return false;
+impl Frame<'_> {
+    // Whether the first n entries fit the nodes from row `nfirst` on.
+    fn is_shaped(&self, nodes: &[u64], nfirst: usize, entries: &Entries, n: usize) -> bool
+        requires { Spanned nodes.now nfirst self.now.forms.now self.now.bounds.now (entries_of entries.now) n }
+        ensures { result ≡ shaped_from nodes.now nfirst self.now.forms.now self.now.bounds.now (entries_of entries.now) 0 n }
+    {
+        for k in 0..n {
+            let st = entries.load(k);
+            if !fits_row(row_at(nodes, nfirst + k), self.forms[k], self.bounds[k], st) {
+                return false;
+            }
         }
+        true
     }
-    true
-}
 
-// Whether a lent monitor has n nodes, and an entry that fits each of the n rows.
-pub(crate) fn is_fit(
-    nodes: &[u64],
-    nfirst: usize,
-    n: usize,
-    size: usize,
-    forms: &[u64],
-    bounds: &[u64],
-    held: &[bool],
-    remaining: &[u64],
-    failed: &[bool],
-    culprits: &[i64],
-) -> bool
-    requires { Spanned nodes.now nfirst forms.now bounds.now (entries held.now remaining.now failed.now culprits.now) n }
-    ensures { result ≡ rows_fit nodes.now nfirst n
-        (monitor_of size forms.now bounds.now
-        (entries held.now remaining.now failed.now culprits.now)) }
-{
-    if size == n {
-        return is_shaped(
-            nodes, nfirst, forms, bounds, held, remaining, failed, culprits, n,
-        );
+    // Whether the monitor has as many nodes as the rule, and an entry that fits each of its rows.
+    pub(crate) fn is_fit(&self, nodes: &[u64], part: Part, entries: &Entries) -> bool
+        requires { Spanned nodes.now part.nfirst self.now.forms.now self.now.bounds.now (entries_of entries.now) part.ncount }
+        ensures { result ≡ rows_fit nodes.now part.nfirst part.ncount (lent_monitor self.now (entries_of entries.now)) }
+    {
+        self.size == part.ncount && self.is_shaped(nodes, part.nfirst, entries, part.ncount)
     }
-    false
 }

@@ -6,7 +6,7 @@ use native.Mathlib.Omega.{arith}
 use lib.ListN.{length, get_or}
 use Rattle.terms.specs.Words.{line_words}
 use Rattle.letters.specs.Letters.{Letters}
-use Rattle.words.specs.Word.{Entry, vocabulary, spelling_of, length_of, letter_of}
+use Rattle.words.specs.Word.{vocabulary, spelling_in, spelling_of, length_of, letter_of}
 use Rattle.words.proofs.Spelled.{entry_past}
 
 -- ---- letter by letter
@@ -30,7 +30,7 @@ none_below zero k h = omega arith
 none_below (suc n) k h = let p : n ≤ k = none_below n k h.0 in omega (arith, h.1)
 
 none_spelled : (k : ℕ) → NoneBelow line_words k → spelling_of k ≡ []
-none_spelled k h = ap (λ (e : Entry). e.spelling) (entry_past vocabulary k (none_below line_words k h))
+none_spelled k h = ap spelling_in (entry_past vocabulary k (none_below line_words k h))
 
 pub no_letter : (k i : ℕ) → NoneBelow line_words k → 0 ≡ letter_of k i
 unfolding letter_of

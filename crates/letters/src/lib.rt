@@ -1,5 +1,5 @@
 // The words that a line can begin with, by their numbers (crate terms, op.rt and word.rt): how many letters each has, and its letter at a place.
-// The letters come from decisions; no constant array holds a word.
+// The letters come from decisions, a function a word: no constant array or byte string holds a word, so there is no table to index.
 #![tactic(auto)]
 
 ghost use Rattle.std.specs.Prelude.{◌≡◌};
@@ -9,6 +9,7 @@ ghost use Rattle.letters.specs.Letters.{Letters};
 ghost use Rattle.words.specs.Word.{spelling_of, length_of, letter_of};
 
 // How many letters word k has, 0 where there is no such word.
+#[tactic(auto, unfolding(words::specs::Word::length_of))]
 pub fn length(k: u8) -> usize
     ensures { result ≡ length_of k }
 {

@@ -6,19 +6,20 @@ use mathlib.Core.List.{List, [], ◌∷◌}
 use Prim.Native.Nat.{ℕ, ◌≤◌, ◌<◌}
 use native.Mathlib.Omega.{arith}
 use borrow.Author.Tests.{ltb-true, leb-true}
-use lib.Dec.{eqb, leb, ltb}
+use lib.Dec.{leb, ltb}
 use Rattle.terms.specs.Limits.{signals, slot_most, state_counts, steps}
-use Rattle.terms.specs.Kinds.{kinds}
+use Rattle.terms.specs.Kinds.{kinds, kind_number}
+use Rattle.terms.specs.declared.kind.Kind.{Kind}
+use Rattle.terms.specs.declared.kind.Kind.TheVariants.{Property, Assumption}
 use Rattle.terms.specs.Ops.{not_op, words}
 use Rattle.terms.specs.Choice.{pick}
 use Rattle.number.specs.Number.{decimal_of, hex_of}
-use Rattle.number.specs.declared.Number.{Number}
-use Rattle.number.specs.declared.Number.TheVariants.{Value, Wrong}
+use Rattle.std.specs.Prelude.{None, Option, Some}
 use Rattle.line.specs.Text.{fields}
 use Rattle.words.specs.Same.{eqbs}
 use Rattle.words.specs.Word.{Entry, vocabulary, lookup, word_of}
 use Rattle.line.specs.Line.{Content, rule, node, step, states, slot, Line, bad, wrong, right}
-use Rattle.line.specs.Line.{is_label, kind_of, rule_kind, rule_line, atom_line, bound_line, step_line, states_line, width_line, slot_line, no_field, one_field, two_fields, content, of_fields, parse}
+use Rattle.line.specs.Line.{is_label, kind_of, rule_kind, rule_of, rule_line, atom_line, bound_line, step_line, states_line, width_line, slot_line, no_field, one_field, two_fields, content, of_fields, parse}
 use Rattle.words.specs.declared.word.Word.{Word}
 use Rattle.words.specs.declared.word.Word.TheVariants as word
 use Rattle.line.specs.declared.line.Sort.TheVariants as sort
@@ -58,22 +59,25 @@ WordSane word.Rule = Unit
 WordSane word.Step = Unit
 WordSane word.States = Unit
 WordSane word.Slot = Unit
-WordSane word.Unknown = Unit
+
+abbrev MaybeSane : Option Word → Type 0
+MaybeSane None = Unit
+MaybeSane (Some w) = WordSane w
 
 abbrev AllSane : List Entry → Type 0
 AllSane [] = Unit
 AllSane (e ∷ es) = WordSane e.word × AllSane es
 
-lookup_sane : (es : List Entry) (f : List ℕ) → AllSane es → WordSane (lookup es f)
+lookup_sane : (es : List Entry) (f : List ℕ) → AllSane es → MaybeSane (lookup es f)
 unfolding lookup
 lookup_sane [] f h = tt
 lookup_sane (e ∷ es) f h = go (eqbs f e.spelling) (lookup es f) (lookup_sane es f h.1)
   where
-    go : (t : Bool) (w : Word) → WordSane w → WordSane (pick t e.word w)
+    go : (t : Bool) (w : Option Word) → MaybeSane w → MaybeSane (pick t (Some e.word) w)
     go true w k = h.0
     go false w k = k
 
-word_sane : (f : List ℕ) → WordSane (word_of f)
+word_sane : (f : List ℕ) → MaybeSane (word_of f)
 unfolding word_of
 word_sane f =
     lookup_sane vocabulary f (
@@ -115,21 +119,26 @@ word_sane f =
     )
 
 -- ---- the fields
-rule_sane : (f g : List ℕ) → SaneLine (rule_line f g)
-unfolding rule_line rule_kind kind_of
-rule_sane f g = go (is_label f) refl (eqbs g (80 ∷ [])) (eqbs g (65 ∷ []))
-  where
-    go : (a : Bool) → is_label f ≡ a → (b c : Bool)
-        → SaneLine (pick (eqb (pick a (pick b 0 (pick c 1 2)) 2) 2) (wrong sort.Rule flaw.Label) (right (rule f (pick a (pick b 0 (pick c 1 2)) 2))))
-    go true e true c = record { label = e; kind = omega arith }
-    go true e false true = record { label = e; kind = omega arith }
-    go true e false false = tt
-    go false e b c = tt
+kind_low : (k : Kind) → kind_number k < kinds
+kind_low Property = omega arith
+kind_low Assumption = omega arith
 
-atom_sane : (op : ℕ) (n : Number) → op < not_op → SaneLine (atom_line op n)
+rule_sane : (f g : List ℕ) → SaneLine (rule_line f g)
+unfolding rule_line rule_kind
+rule_sane f g = go (is_label f) refl (kind_of g)
+  where
+    by : is_label f ≡ true → (k : Option Kind) → SaneLine (rule_of f k)
+    by e None = tt
+    by e (Some k) = record { label = e; kind = kind_low k }
+
+    go : (a : Bool) → is_label f ≡ a → (k : Option Kind) → SaneLine (rule_of f (pick a k None))
+    go true e k = by e k
+    go false e k = tt
+
+atom_sane : (op : ℕ) (n : Option ℕ) → op < not_op → SaneLine (atom_line op n)
 unfolding atom_line
-atom_sane op Wrong k = tt
-atom_sane op (Value v) k = go (ltb v signals) refl
+atom_sane op None k = tt
+atom_sane op (Some v) k = go (ltb v signals) refl
   where
     go : (t : Bool) → ltb v signals ≡ t → SaneLine (pick t (right (node op v)) (wrong sort.Node flaw.Number))
     go true e = record { known = omega arith; signal = λ _. ltb-true v signals e }
@@ -138,31 +147,31 @@ atom_sane op (Value v) k = go (ltb v signals) refl
 node_sane : (op v : ℕ) → not_op ≤ op → op < words → NodeSane op v
 node_sane op v h k = record { known = k; signal = λ z. absurd (omega arith) }
 
-bound_sane : (op : ℕ) (n : Number) → not_op ≤ op → op < words → SaneLine (bound_line op n)
+bound_sane : (op : ℕ) (n : Option ℕ) → not_op ≤ op → op < words → SaneLine (bound_line op n)
 unfolding bound_line
-bound_sane op Wrong h k = tt
-bound_sane op (Value v) h k = node_sane op v h k
+bound_sane op None h k = tt
+bound_sane op (Some v) h k = node_sane op v h k
 
-step_sane : (n m : Number) → SaneLine (step_line n m)
+step_sane : (n m : Option ℕ) → SaneLine (step_line n m)
 unfolding step_line
-step_sane Wrong m = tt
-step_sane (Value s) Wrong = tt
-step_sane (Value s) (Value w) = go (ltb s steps) refl
+step_sane None m = tt
+step_sane (Some s) None = tt
+step_sane (Some s) (Some w) = go (ltb s steps) refl
   where
     go : (t : Bool) → ltb s steps ≡ t → SaneLine (pick t (right (step s w)) (wrong sort.Step flaw.Number))
     go true e = ltb-true s steps e
     go false e = tt
 
-states_sane : (n : Number) → SaneLine (states_line n)
+states_sane : (n : Option ℕ) → SaneLine (states_line n)
 unfolding states_line
-states_sane Wrong = tt
-states_sane (Value c) = go (ltb c state_counts) refl
+states_sane None = tt
+states_sane (Some c) = go (ltb c state_counts) refl
   where
     go : (t : Bool) → ltb c state_counts ≡ t → SaneLine (pick t (right (states c)) (wrong sort.States flaw.Number))
     go true e = ltb-true c state_counts e
     go false e = tt
 
-slot_sane : (f : List ℕ) (n : Number) → SaneLine (slot_line f n)
+slot_sane : (f : List ℕ) (n : Option ℕ) → SaneLine (slot_line f n)
 unfolding slot_line width_line
 slot_sane f n = go (is_label f) refl n
   where
@@ -170,9 +179,9 @@ slot_sane f n = go (is_label f) refl n
     by e w true h = record { name = e; width = leb-true w slot_most h }
     by e w false h = tt
 
-    go : (t : Bool) → is_label f ≡ t → (m : Number) → SaneLine (pick t (width_line f m) (wrong sort.Slot flaw.Label))
-    go true e Wrong = tt
-    go true e (Value w) = by e w (leb w slot_most) refl
+    go : (t : Bool) → is_label f ≡ t → (m : Option ℕ) → SaneLine (pick t (width_line f m) (wrong sort.Slot flaw.Label))
+    go true e None = tt
+    go true e (Some w) = by e w (leb w slot_most) refl
     go false e m = tt
 
 -- a line of so many fields, if it is one
@@ -191,16 +200,16 @@ two_sane r (f ∷ []) h = tt
 two_sane r (f ∷ g ∷ []) h = h f g
 two_sane r (f ∷ g ∷ i ∷ fs) h = tt
 
-content_sane : (w : Word) (fs : List (List ℕ)) → WordSane w → SaneLine (content w fs)
+content_sane : (w : Option Word) (fs : List (List ℕ)) → MaybeSane w → SaneLine (content w fs)
 unfolding content
-content_sane (word.Atom op) fs k = one_sane (λ f. atom_line op (decimal_of f)) fs (λ f. atom_sane op (decimal_of f) k)
-content_sane (word.Plain op) fs k = none_sane (right (node op 0)) fs (node_sane op 0 k.0 k.1)
-content_sane (word.Bounded op) fs k = one_sane (λ f. bound_line op (decimal_of f)) fs (λ f. bound_sane op (decimal_of f) k.0 k.1)
-content_sane word.Rule fs k = two_sane rule_line fs rule_sane
-content_sane word.Step fs k = two_sane (λ f g. step_line (decimal_of f) (hex_of g)) fs (λ f g. step_sane (decimal_of f) (hex_of g))
-content_sane word.States fs k = one_sane (λ f. states_line (decimal_of f)) fs (λ f. states_sane (decimal_of f))
-content_sane word.Slot fs k = two_sane (λ f g. slot_line f (decimal_of g)) fs (λ f g. slot_sane f (decimal_of g))
-content_sane word.Unknown fs k = tt
+content_sane (Some (word.Atom op)) fs k = one_sane (λ f. atom_line op (decimal_of f)) fs (λ f. atom_sane op (decimal_of f) k)
+content_sane (Some (word.Plain op)) fs k = none_sane (right (node op 0)) fs (node_sane op 0 k.0 k.1)
+content_sane (Some (word.Bounded op)) fs k = one_sane (λ f. bound_line op (decimal_of f)) fs (λ f. bound_sane op (decimal_of f) k.0 k.1)
+content_sane (Some word.Rule) fs k = two_sane rule_line fs rule_sane
+content_sane (Some word.Step) fs k = two_sane (λ f g. step_line (decimal_of f) (hex_of g)) fs (λ f g. step_sane (decimal_of f) (hex_of g))
+content_sane (Some word.States) fs k = one_sane (λ f. states_line (decimal_of f)) fs (λ f. states_sane (decimal_of f))
+content_sane (Some word.Slot) fs k = two_sane (λ f g. slot_line f (decimal_of g)) fs (λ f g. slot_sane f (decimal_of g))
+content_sane None fs k = tt
 
 fields_sane : (fs : List (List ℕ)) → SaneLine (of_fields fs)
 unfolding of_fields

@@ -1,7 +1,7 @@
 -- The lines of the rules.
-use mathlib.Core.List.{List, []}
+use mathlib.Core.List.{List}
 use mathlib.Core.Path.{◌≡◌, sym, ap, subst, ◌∙◌}
-use Prim.Native.Nat.{ℕ, ◌+◌, ◌-◌, ◌*◌, ◌^◌, ◌≤◌, ◌<◌}
+use Prim.Native.Nat.{ℕ, ◌+◌, ◌*◌, ◌^◌, ◌≤◌, ◌<◌}
 use native.Mathlib.Omega.{arith}
 use native.Mathlib.Numerals.{add-one}
 use lib.ListN.{length, get_or, take, drop}
@@ -9,7 +9,8 @@ use lib.ListN.{length-drop}
 use Rattle.reader.specs.BookTables.{BookTables, columns}
 use Rattle.text.specs.Tape.{Tape, Wrote}
 use Rattle.text.proofs.Tapes.{as_text, nothing, then}
-use Rattle.listing_line.specs.declared.rule.Compiling.{Compiling}
+use Rattle.listing_line.specs.declared.rule.Compiled.{Compiled}
+use Rattle.std.specs.Prelude.{Result}
 use Rattle.listing_rules.specs.Rules.{Rule, bits_of, first_bit_of, like_of, first_below, compiling_of}
 use Rattle.listing_rules.specs.Tabled.{Tabled}
 use Rattle.listing_rules.specs.Made.{FilledRules}
@@ -26,7 +27,7 @@ module _ (ops nums labels lens kinds firsts counts nodes nfirsts ncounts refusal
   abbrev lent : Lent
   lent = lists tables nodes nfirsts ncounts refusals starts bits
 
-  module _ (n r : ℕ) (c : Compiling) where
+  module _ (n r : ℕ) (c : Result Compiled ℕ) where
     pub label_room : (rest : List ℕ) → RuleReady lent n r c → rest ≡ drop (32 * r) labels → get_or lens r 0 ≤ length rest
     label_room rest h e =
         let k : Labelled labels lens h.readied.rules n = h.readied.is.holds.labelled in
@@ -62,7 +63,7 @@ module _ (ops nums labels lens kinds firsts counts nodes nfirsts ncounts refusal
         → RuleListed lent n r c a b
     unfolding rule_text
     section_listed rest label a b h e p w = record {
-      is = λ base R k g. subst (λ (x : Compiling). Wrote a (section_text r (R r) x) b) g (w.is (R r) (listable rest label base R k h.low g e p));
+      is = λ base R k g. subst (λ (x : Result Compiled ℕ). Wrote a (section_text r (R r) x) b) g (w.is (R r) (listable rest label base R k h.low g e p));
     }
 
   -- ---- the loop: the lines of r rules are written
@@ -78,11 +79,11 @@ module _ (ops nums labels lens kinds firsts counts nodes nfirsts ncounts refusal
     pub told_ready : (r : ℕ) → Readied lent n → r < n → Tellable ops nums firsts counts nodes nfirsts ncounts refusals starts bits r
     told_ready r k h = record { base = k.base; rules = k.rules; many = n; tabled = k.is.tabled; placed = k.is.placed; inside = h }
 
-    pub rule_asked : (r : ℕ) (c : Compiling) → Readied lent n → r < n → ToldRule ops nums firsts counts nodes nfirsts ncounts refusals starts bits r c → RuleReady lent n r c
+    pub rule_asked : (r : ℕ) (c : Result Compiled ℕ) → Readied lent n → r < n → ToldRule ops nums firsts counts nodes nfirsts ncounts refusals starts bits r c → RuleReady lent n r c
     rule_asked r c k h t = record { readied = k; low = h; gave = t.is k.base k.rules n k.is.tabled k.is.placed h }
 
     pub headed_next :
-        (r : ℕ) (c : Compiling) (a b d : Tape) → Headed n r a b → r < n
+        (r : ℕ) (c : Result Compiled ℕ) (a b d : Tape) → Headed n r a b → r < n
         → ToldRule ops nums firsts counts nodes nfirsts ncounts refusals starts bits r c → RuleListed lent n r c b d → Headed n (r + 1) a d
     unfolding upto
     headed_next r c a b d s h t w = record {

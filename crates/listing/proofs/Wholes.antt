@@ -1,21 +1,19 @@
 -- A whole book: what reading it leaves is what its rules are listed from, and the listing stands in front of the output.
-use mathlib.Core.List.{List, [], ◌++◌}
+use mathlib.Core.List.{List, ◌++◌}
 use mathlib.Core.Path.{◌≡◌, refl, sym, ap, ap₂, subst, ◌∙◌}
 use Prim.Native.Nat.{ℕ, ◌+◌, ◌^◌, ◌≤◌, ◌<◌}
 use native.Mathlib.Omega.{arith}
 use borrow.Author.Tests.{le-leb, lt-leb}
 use lib.ListN.{length, take, drop, length-append, length-drop, take-append-drop}
-use mir.Syntax.{w64}
-use mir.Val.{Fits}
 use Rattle.terms.specs.Limits.{state_counts}
 use Rattle.encoding.specs.Encoding.{monitors_base, Widths, StateSum, SlotSum}
 use Rattle.encoding.specs.declared.ConfigEncoding.{ConfigEncoding}
 use Rattle.book.specs.Book.{count_in}
-use Rattle.book.specs.declared.state.States.{States}
+use Rattle.result.specs.Refusal.{number_of}
+use Rattle.book.specs.declared.check.Refused.{Refused}
 use Rattle.reader.specs.BookTables.{BookTables, SlotTables, columns, slot_columns}
 use Rattle.reader.specs.Answer.{Reads}
-use Rattle.reader.specs.declared.read.Answer.{Answer}
-use Rattle.reader.specs.declared.read.Answer.TheVariants.{Read as Taken, Refused as NotTaken}
+use Rattle.reader.specs.declared.read.Read.{Read}
 use Rattle.text.specs.Tape.{Tape, tape, Wrote}
 use Rattle.text.proofs.Tapes.{as_text, then, wrote_first}
 use Rattle.listing_line.specs.Plan.{plan_line}
@@ -33,13 +31,14 @@ use Rattle.listing_steps.specs.Holding.{Rows}
 use Rattle.listing_steps.specs.Stepped.{StepsDue, StepsReported}
 use Rattle.listing_steps.proofs.Start.{tabled_rows}
 use Rattle.result.specs.Result.{given}
-use Rattle.listing.specs.declared.whole.Listed.TheVariants.{Text, Refused}
+use Rattle.std.specs.Prelude.{Option, Result, Ok, Err}
+use Rattle.result.specs.declared.Refusal.TheVariants.{Short}
 use Rattle.listing.specs.Whole.{KnownBook, HeadListed, Compiled, TailListed}
 use Rattle.listing.specs.LentLists.{HoldsRules}
 use Rattle.listing.specs.Lists.{list_call, Answers}
 
 -- ---- the entry point
-pub list_short : (text out : List ℕ) → length out < 262144 → Answers (list_call text out) (Refused 1) out
+pub list_short : (text out : List ℕ) → length out < 262144 → Answers (list_call text out) (Err Short) out
 unfolding list_call
 list_short text out h = rw (lt-leb 262144 (length out) h) record { answers = refl; leaves = refl }
 
@@ -53,7 +52,7 @@ module _ (text out out' : List ℕ) (n : ℕ) (w : Wrote (tape out 0) (listing t
   whole : out' ≡ listing text ++ drop (length (listing text)) out
   whole = sym (take-append-drop n out') ∙ ap₂ ◌++◌ stood.1 (stood.2 ∙ ap (λ (k : ℕ). drop k out) stood.0)
 
-  pub listed : Answers (list_call text out) (Text n) out'
+  pub listed : Answers (list_call text out) (Ok n) out'
   unfolding list_call
   listed = rw (le-leb 262144 (length out) h) record { answers = ap given stood.0; leaves = whole }
 
@@ -75,23 +74,22 @@ module _ (text labels lens kinds firsts counts ops nums names sizes widths label
   after_slots = slot_columns names' sizes' widths'
 
   pub read_hands : 2048 ≡ length labels → 64 ≡ length lens → 64 ≡ length kinds → 64 ≡ length firsts → 64 ≡ length counts → 1024 ≡ length ops → 1024 ≡ length nums
-      → 1024 ≡ length names → 32 ≡ length sizes → 32 ≡ length widths → (r : Answer) → Reads text before before_slots r after after_slots
+      → 1024 ≡ length names → 32 ≡ length sizes → 32 ≡ length widths → (r : Result Read Refused) → Reads text before before_slots r after after_slots
       → AnswerHands text after widths' r
   read_hands a b c d e f g i j k r u =
       answer_hands text before before_slots after after_slots r
       (record { labels = omega arith; lens = omega arith; kinds = omega arith; firsts = omega arith; counts = omega arith; ops = omega arith; nums = omega arith })
       (record { names = omega arith; lens = omega arith; widths = omega arith }) (sym f) (sym g) u
 
-module _ (text labels lens kinds firsts counts ops nums widths : List ℕ) (r : Answer) (h : AnswerHands text (columns labels lens kinds firsts counts ops nums) widths r) where
-  pub hands_read : (rules nodes steps-at slots : ℕ) (states : States) → r ≡ Taken rules nodes steps-at slots states
-      → HandedOpening text (columns labels lens kinds firsts counts ops nums) widths rules steps-at slots states
-  hands_read rules nodes steps-at slots states e = subst (AnswerHands text (columns labels lens kinds firsts counts ops nums) widths) e h
+module _ (text labels lens kinds firsts counts ops nums widths : List ℕ) (r : Result Read Refused) (h : AnswerHands text (columns labels lens kinds firsts counts ops nums) widths r) where
+  pub hands_read : (a : Read) → r ≡ Ok a → HandedOpening text (columns labels lens kinds firsts counts ops nums) widths a.rules a.steps_at a.slots a.states
+  hands_read a e = subst (AnswerHands text (columns labels lens kinds firsts counts ops nums) widths) e h
 
-  pub refused_wrote : (n k : ℕ) (x y : Tape) → r ≡ NotTaken n k → Wrote x (refused_line n k) y → Wrote x (listing text) y
-  refused_wrote n k x y e w = as_text x y (subst (AnswerHands text (columns labels lens kinds firsts counts ops nums) widths) e h) w
+  pub refused_wrote : (q : Refused) (n : ℕ) (x y : Tape) → r ≡ Err q → n ≡ number_of q.refusal → Wrote x (refused_line n q.line) y → Wrote x (listing text) y
+  refused_wrote q n x y e f w = as_text x y (subst (AnswerHands text (columns labels lens kinds firsts counts ops nums) widths) e h ∙ ap (λ (k : ℕ). refused_line k q.line) (sym f)) w
 
 -- ---- the bits of the states and of the slots
-module _ (text labels lens kinds firsts counts ops nums widths : List ℕ) (n from slots : ℕ) (states : States)
+module _ (text labels lens kinds firsts counts ops nums widths : List ℕ) (n from slots : ℕ) (states : Option ℕ)
     (h : HandedOpening text (columns labels lens kinds firsts counts ops nums) widths n from slots states) where
   pub opening_count : (count : ℕ) → count ≡ count_in states → count < state_counts
   opening_count count e = subst (λ (k : ℕ). k < state_counts) (sym e) h.low
@@ -113,9 +111,6 @@ module _ (text labels lens kinds firsts counts ops nums : List ℕ) (n from stat
 
   pub known : KnownBook tables n
   known = record { rules = rule_at h.book; is = holds }
-
-  pub base_fits : Fits w64 (state + vars)
-  base_fits = record { fits = omega (arith, h.state_most, h.vars_most) }
 
   pub base_low : state + vars < 2 ^ 63
   base_low = omega (arith, h.state_most, h.vars_most)

@@ -1,9 +1,9 @@
 -- The tables from which a book's rules are listed.
-use Rattle.std.specs.Prelude.{List, ◌≡◌, ℕ, ◌+◌, ◌*◌, ◌≤◌, ◌<◌, length, get_or, take, drop}
+use Rattle.std.specs.Prelude.{List, ◌≡◌, ℕ, ◌+◌, ◌*◌, ◌≤◌, ◌<◌, length, get_or, take, drop, Result}
 use Rattle.terms.specs.Limits.{book_rules, label_bytes, labels_room}
 use Rattle.reader.specs.BookTables.{BookTables}
 use Rattle.text.specs.Tape.{Tape, Wrote}
-use Rattle.listing_line.specs.declared.rule.Compiling.{Compiling}
+use Rattle.listing_line.specs.declared.rule.Compiled.{Compiled}
 use Rattle.listing_rules.specs.Rules.{Rule, compiling_of}
 use Rattle.listing_rules.specs.Tabled.{Held, Tabled, Placed}
 use Rattle.listing_head.specs.Head.{rule_text, rules_text}
@@ -54,12 +54,12 @@ pub record Readied (l : Lent) (n : ℕ) : Type 0 where
   pub is : BookReady base l rules n
 
 -- rule r, with what compiling gave
-pub record RuleReady (l : Lent) (n r : ℕ) (c : Compiling) : Type 0 where
+pub record RuleReady (l : Lent) (n r : ℕ) (c : Result Compiled ℕ) : Type 0 where
   pub readied : Readied l n
   pub low : r < n
   pub gave : c ≡ compiling_of readied.base readied.rules n r
 
-pub record RuleListed (l : Lent) (n r : ℕ) (c : Compiling) (before after : Tape) : Type 0 where
+pub record RuleListed (l : Lent) (n r : ℕ) (c : Result Compiled ℕ) (before after : Tape) : Type 0 where
   pub is : (base : ℕ) (R : ℕ → Rule) → BookReady base l R n → c ≡ compiling_of base R n r → Wrote before (rule_text base R n r) after
 
 -- all rules

@@ -1,4 +1,5 @@
 -- Listing a book: what the call answers, and what its parts ask and leave.
 pub mod Lists
+pub mod Books
 pub mod LentLists
 pub mod Whole

@@ -1,16 +1,13 @@
 -- What listing a book answers and leaves in the lent output.
-use Rattle.std.specs.Prelude.{Bool, true, false, List, ◌++◌, ◌≡◌, ℕ, ◌≤◌, leb, length, drop}
+use Rattle.std.specs.Prelude.{Bool, true, false, List, ◌++◌, ◌≡◌, ℕ, ◌≤◌, leb, length, drop, Ok, Err}
+use Rattle.std.specs.Prelude.{Result as Returned}
 use Rattle.terms.specs.Limits.{listing_bytes}
 use Rattle.result.specs.Result.{Result, given, refused}
+use Rattle.result.specs.Refusal.{told}
+use Rattle.result.specs.declared.Refusal.{Refusal}
 use Rattle.listing_text.specs.Listing.{listing}
-use Rattle.listing.specs.declared.whole.Listed.{Listed}
-use Rattle.listing.specs.declared.whole.Listed.TheVariants.{Text, Refused}
 
--- document 01's result for each case of the answer: the length of the text
-abbrev pub result_of : Listed → Result ℕ
-result_of (Text n) = given n
-result_of (Refused n) = refused n
-
+-- document 01's result, the length of the text, and the output afterwards
 pub record Call : Type 0 where
   pub answer : Result ℕ
   pub out : List ℕ
@@ -26,11 +23,11 @@ list_call text out =
     or_short (leb listing_bytes (length out)) out
     (record { answer = given (length (listing text)); out = listing text ++ drop (length (listing text)) out })
 
-pub record Answers (c : Call) (r : Listed) (out : List ℕ) : Type 0 where
-  pub answers : result_of r ≡ c.answer
+pub record Answers (c : Call) (r : Returned ℕ Refusal) (out : List ℕ) : Type 0 where
+  pub answers : told r ≡ c.answer
   pub leaves : out ≡ c.out
 
 -- the text lies in the output
-abbrev pub Within : Listed → List ℕ → Type 0
-Within (Text n) out = n ≤ length out
-Within (Refused n) out = 0 ≤ length out
+abbrev pub Within : Returned ℕ Refusal → List ℕ → Type 0
+Within (Ok n) out = n ≤ length out
+Within (Err r) out = 0 ≤ length out

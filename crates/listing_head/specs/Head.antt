@@ -2,11 +2,11 @@
 --     rule_text     a rule's lines: `rule`, `node`, `live`, `owe`
 --     rules_text    those of all rules, in book order
 use Rattle.std.proofs.Math.Bool as bool
-use Rattle.std.specs.Prelude.{List, [], ◌++◌, ℕ, zero, suc}
+use Rattle.std.specs.Prelude.{List, [], ◌++◌, ℕ, zero, suc, Result}
 use Rattle.terms.specs.Choice.{pick}
 use Rattle.liveness.specs.Split.{Obligation, Answer, none as no_split, parts, refused as split-refused, split_of}
 use Rattle.text.specs.Tape.{joined}
-use Rattle.listing_line.specs.declared.rule.Compiling.{Compiling}
+use Rattle.listing_line.specs.declared.rule.Compiled.{Compiled}
 use Rattle.listing_line.specs.Node.{node_lines}
 use Rattle.listing_line.specs.Rule.{rule_line}
 use Rattle.listing_live.specs.Live.{live_line, owe_lines}
@@ -37,7 +37,7 @@ unfoldable pub owes_text : Rule → List ℕ
 owes_text q = joined (owe_lines (owes_of (split_answer q)) 0)
 
 -- a rule with its number and what compiling gave
-abbrev pub section_text : ℕ → Rule → Compiling → List ℕ
+abbrev pub section_text : ℕ → Rule → Result Compiled ℕ → List ℕ
 section_text r q c = rule_line r q.label q.kind c ++ (nodes_text q ++ (live_text q ++ owes_text q))
 
 -- rule r of n, the monitors beginning at bit `base`

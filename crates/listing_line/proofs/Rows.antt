@@ -10,9 +10,8 @@ use Rattle.number.specs.Digits.{digits}
 use Rattle.spelling.specs.Spelling.{spelled}
 use Rattle.listing_line.specs.Line.{line}
 use Rattle.listing_line.specs.Node.{check_fields, line_of}
-use Rattle.listing_line.specs.Rule.{rule_line}
-use Rattle.listing_line.specs.declared.rule.Alike.TheVariants.{Nothing}
-use Rattle.listing_line.specs.declared.rule.Compiling.TheVariants.{Compiled}
+use Rattle.listing_line.specs.Rule.{compiled_as, rule_line}
+use Rattle.std.specs.Prelude.{None}
 
 -- `node 0 B 3 0 * v0 v1`
 pub whole_node :
@@ -23,7 +22,7 @@ whole_node = refl
 
 -- `rule 0 trip P 0 0 3 -`
 pub whole_rule :
-    rule_line 0 (116 ∷ 114 ∷ 105 ∷ 112 ∷ []) 0 (Compiled 0 3 Nothing)
+    rule_line 0 (116 ∷ 114 ∷ 105 ∷ 112 ∷ []) 0 (compiled_as 0 3 None)
     ≡ 114 ∷ 117 ∷ 108 ∷ 101 ∷ 9 ∷ 48 ∷ 9 ∷ 116 ∷ 114 ∷ 105 ∷ 112 ∷ 9 ∷ 80 ∷ 9 ∷ 48 ∷ 9 ∷ 48 ∷ 9 ∷ 51 ∷ 9 ∷ 45 ∷ 10 ∷ []
 unfolding rule_line line digits
 whole_rule = refl

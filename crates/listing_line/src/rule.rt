@@ -11,47 +11,37 @@ use terms::kind::PROPERTY;
 use terms::word::RULE;
 use text::write::put_byte;
 
-// The first earlier rule that is alike, if there is one.
-#[derive(Clone, Copy)]
-pub enum Alike {
-    To(u64),
-    Nothing,
+// What compiling a rule gave: its first bit, its bits, and the first earlier rule that is alike, if there is one.
+#[derive(Clone, Copy, Debug, PartialEq, Eq)]
+pub struct Compiled {
+    pub first: u64,
+    pub bits: u64,
+    pub alike: Option<u64>,
 }
 
-// What compiling a rule gave: its first bit, its bits and its likeness, or the refusal.
-#[derive(Clone, Copy)]
-pub enum Compiling {
-    Compiled { first: u64, bits: u64, alike: Alike },
-    Refused(u64),
-}
-
-fn put_alike(out: &mut [u8], at: usize, alike: Alike) -> usize
+fn put_alike(out: &mut [u8], at: usize, alike: Option<u64>) -> usize
     ensures { Wrote (tape out.old at) (marked (alike_text alike) 10) (tape out.new result) }
 {
     match alike {
-        Alike::To(n) => {
-            return put_number(out, at, n, 10);
-        }
-        Alike::Nothing => {
-            return put_absent(out, at, 10);
-        }
+        Some(n) => put_number(out, at, n, 10),
+        None => put_absent(out, at, 10),
     }
 }
 
-// The four last fields.
-fn put_compiling(out: &mut [u8], at: usize, c: Compiling) -> usize
+// The four last fields. A refusal is told by its number, as the lent lists have it.
+fn put_compiling(out: &mut [u8], at: usize, c: Result<Compiled, u64>) -> usize
     ensures { Wrote (tape out.old at) (line (compiling_fields c)) (tape out.new result) }
 {
     match c {
-        Compiling::Compiled { first, bits, alike } => {
+        Ok(Compiled { first, bits, alike }) => {
             let a = put_text(out, at, b"0", 9);
             let b = put_number(out, a, first, 9);
             let d = put_number(out, b, bits, 9);
-            return put_alike(out, d, alike);
+            put_alike(out, d, alike)
         }
-        Compiling::Refused(n) => {
+        Err(n) => {
             let a = put_number(out, at, n, 9);
-            return put_text(out, a, b"-\t-\t-", 10);
+            put_text(out, a, b"-\t-\t-", 10)
         }
     }
 }
@@ -82,7 +72,7 @@ pub fn put_rule(
     number: u64,
     label: &[u8],
     kind: u8,
-    c: Compiling,
+    c: Result<Compiled, u64>,
 ) -> usize
     ensures { Wrote (tape out.old at) (rule_line number label.now kind c) (tape out.new result) }
 {

@@ -2,7 +2,7 @@
 use mathlib.Core.Path.{◌≡◌, refl, sym, ap, ap₂, subst, ◌∙◌}
 use mathlib.Core.Bool.{true}
 use mathlib.Core.List.{List, [], ◌∷◌, ◌++◌}
-use Prim.Native.Nat.{ℕ, zero, suc, ◌+◌, ◌-◌, ◌*◌, ◌≤◌, ◌<◌}
+use Prim.Native.Nat.{ℕ, zero, suc, ◌+◌, ◌*◌, ◌≤◌, ◌<◌}
 use native.Mathlib.Omega.{arith}
 use native.Mathlib.Numerals.{add-one}
 use native.Mathlib.Nat.{add-zero}
@@ -13,6 +13,7 @@ use Rattle.formula.specs.Spells.{Spells}
 use Rattle.formula.specs.Formula.{Formula, var, not, next, always, eventually, always_for, within, and, or, implies, until}
 use Rattle.formula.specs.Table.{node_at}
 use Rattle.formula.specs.Pure.{pure}
+use Rattle.result.specs.declared.Refusal.TheVariants.{EventuallyOperand, UntilOperand}
 use Rattle.liveness.specs.Split.{faults, Obligation, E, U, obligations_of}
 use Rattle.formula.proofs.Faults.{append_nil_inv, unless_nil}
 use Rattle.liveness.proofs.Words.{both_nil}
@@ -164,7 +165,7 @@ module _ (ops nums : List ℕ) where
   owes_pure (one next f) i s g h e = tt
   owes_pure (one always f) i s g h e = tt
   owes_pure (one eventually f) i s g h e =
-      let p = pure_there f (i + 1) (unless_nil (pure f) 20 e) s.1 (omega arith) (omega arith) in
+      let p = pure_there f (i + 1) (unless_nil (pure f) EventuallyOperand e) s.1 (omega arith) (omega arith) in
       ((p, p), tt)
   owes_pure (one (always_for b) f) i s g h e = tt
   owes_pure (one (within b) f) i s g h e = tt
@@ -178,7 +179,7 @@ module _ (ops nums : List ℕ) where
       let (p, q) = append_nil_inv (faults l) (faults r) e in
       pure_append ops nums (obligations_of l (i + 1)) (obligations_of r (i + 1 + size l)) (owes_pure l (i + 1) s.1 (omega arith) (omega arith) p) (owes_pure r (i + 1 + size l) s.2 (omega arith) (omega arith) q)
   owes_pure (two until l r) i s g h e =
-      let (p, q) = both_nil (pure l) (pure r) 21 e in
+      let (p, q) = both_nil (pure l) (pure r) UntilOperand e in
       ((pure_there l (i + 1) p s.1 (omega arith) (omega arith), pure_there r (i + 1 + size l) q s.2 (omega arith) (omega arith)), tt)
 
   pure_at : (os : List Obligation) (k : ℕ) → OwesPure ops nums os → k < length os → Purely ops nums (get_or os k nil)

@@ -20,12 +20,14 @@ use Rattle.liveness.specs.Split.{Skeleton, safety, owed, Not, And, Or, Implies, 
 use Rattle.liveness.specs.Text.{skeleton_text}
 use Rattle.split.specs.Held.{entries, skeleton_cells, outcome, held}
 use Rattle.split.proofs.Cells.{cells_length}
-use Rattle.split.specs.declared.parts.Liveness.{Liveness}
-use Rattle.split.proofs.Splits.{result_inj}
-use Rattle.split.specs.declared.parts.Liveness.TheVariants.{None, Parts, Refused}
+use Rattle.std.specs.Prelude.{Option, Some, None, Ok}
+use Rattle.std.specs.Prelude.{Result as Returned}
+use Rattle.result.proofs.Told.{told_given, told_refused}
+use Rattle.result.specs.declared.Refusal.{Refusal}
+use Rattle.split.specs.declared.parts.Parts.{Parts}
 use Rattle.number.specs.Digits.{decimal}
 use Rattle.text.proofs.Tapes.{append-nil}
-use Rattle.listing_line.specs.Line.{line}
+use Rattle.listing_line.specs.Line.{line, absent}
 use Rattle.listing_live.specs.Live.{live_word, marks_text, live_line}
 use Rattle.listing_live.specs.Entry.{entries_text, EntryIn, EntriesIn, SkeletonStands, live_text, LiveReady}
 use Rattle.listing_live.proofs.Entries.{entries_text_lem}
@@ -63,12 +65,14 @@ Stood ops nums none s = Unit
 Stood ops nums (refused n) s = Unit
 Stood ops nums (parts sk os) s = SkeletonStands ops nums sk × (2 * entries sk ≤ length s)
 
-pub live_answer : (ops nums : List ℕ) (x : Answer) (r : Liveness) (s s' o o' : List ℕ) → outcome r s' o' ≡ held x s o → Stood ops nums x s → live_text ops nums r s' ≡ live_line x
+pub live_answer : (ops nums : List ℕ) (x : Answer) (r : Returned (Option Parts) Refusal) (s s' o o' : List ℕ) → outcome r s' o' ≡ held x s o → Stood ops nums x s → live_text ops nums r s' ≡ live_line x
 unfolding live_text live_line
-live_answer ops nums none r s s' o o' e h = let p : r ≡ None = result_inj r None (cc) in ap (λ (y : Liveness). live_text ops nums y s') p
-live_answer ops nums (refused n) r s s' o o' e h = let p : r ≡ Refused n = result_inj r (Refused n) (cc) in ap (λ (y : Liveness). live_text ops nums y s') p
+live_answer ops nums none r s s' o o' e h = let p : r ≡ Ok None = told_given r None (cc) in ap (λ (y : Returned (Option Parts) Refusal). live_text ops nums y s') p
+live_answer ops nums (refused n) r s s' o o' e h =
+    let (q, p, i) = told_refused r n (cc) in
+    ap (λ (y : Returned (Option Parts) Refusal). live_text ops nums y s') p ∙ ap (λ (k : ℕ). line (live_word ∷ decimal k ∷ absent ∷ [])) i
 live_answer ops nums (parts sk os) r s s' o o' e h =
-    let p : r ≡ Parts (entries sk) (length os) = result_inj r (Parts (entries sk) (length os)) (cc) in
+    let p : r ≡ Ok (Some (record { skeleton = entries sk; owed = length os })) = told_given r (Some (record { skeleton = entries sk; owed = length os })) (cc) in
     let q : s' ≡ sets s 0 (skeleton_cells sk) = cc in
     let rest : List ℕ = drop (0 + length (skeleton_cells sk)) s in
     let t : entries_text ops nums (entries sk) s' ≡ marks_text (skeleton_text sk) =
@@ -76,7 +80,7 @@ live_answer ops nums (parts sk os) r s s' o o' e h =
     ∙ ap (λ (n : ℕ). entries_text ops nums n (skeleton_cells sk ++ rest)) (sym (add-zero (entries sk)))
     ∙ entries_text_lem ops nums sk h.0 0 rest
     ∙ nothing_more ops nums (marks_text (skeleton_text sk)) rest in
-    ap (λ (y : Liveness). live_text ops nums y s') p ∙ ap (λ (y : List ℕ). line (live_word ∷ decimal 0 ∷ y ∷ [])) t
+    ap (λ (y : Returned (Option Parts) Refusal). live_text ops nums y s') p ∙ ap (λ (y : List ℕ). line (live_word ∷ decimal 0 ∷ y ∷ [])) t
 
 -- ---- the places of the safety leaves are in the table
 module _ (ops nums : List ℕ) where
@@ -131,14 +135,14 @@ module _ (ops nums : List ℕ) where
   leaves_in (Implies s t) h rest k q = two_leaves 11 s t (omega arith) (omega arith) (leaves_in s h.0) (leaves_in t h.1) rest k q
 
   -- what the `live` line asks, from the split's output
-  pub answer_ready : (x : Answer) (r : Liveness) (s s' o o' : List ℕ) → outcome r s' o' ≡ held x s o → Stood ops nums x s → LiveReady ops nums r s'
-  answer_ready none r s s' o o' e h = let p : r ≡ None = result_inj r None (cc) in subst (λ (y : Liveness). LiveReady ops nums y s') (sym p) (omega arith)
-  answer_ready (refused n) r s s' o o' e h = let p : r ≡ Refused n = result_inj r (Refused n) (cc) in subst (λ (y : Liveness). LiveReady ops nums y s') (sym p) (omega arith)
+  pub answer_ready : (x : Answer) (r : Returned (Option Parts) Refusal) (s s' o o' : List ℕ) → outcome r s' o' ≡ held x s o → Stood ops nums x s → LiveReady ops nums r s'
+  answer_ready none r s s' o o' e h = let p : r ≡ Ok None = told_given r None (cc) in subst (λ (y : Returned (Option Parts) Refusal). LiveReady ops nums y s') (sym p) (omega arith)
+  answer_ready (refused n) r s s' o o' e h = let (q, p, i) = told_refused r n (cc) in subst (λ (y : Returned (Option Parts) Refusal). LiveReady ops nums y s') (sym p) (omega arith)
   answer_ready (parts sk os) r s s' o o' e h =
-      let p : r ≡ Parts (entries sk) (length os) = result_inj r (Parts (entries sk) (length os)) (cc) in
+      let p : r ≡ Ok (Some (record { skeleton = entries sk; owed = length os })) = told_given r (Some (record { skeleton = entries sk; owed = length os })) (cc) in
       let q : s' ≡ sets s 0 (skeleton_cells sk) = cc in
       let rest : List ℕ = drop (0 + length (skeleton_cells sk)) s in
       let l : s' ≡ skeleton_cells sk ++ rest = q ∙ cells_front sk s h.1 in
       let m : length s' ≡ length (skeleton_cells sk) + length rest = ap length l ∙ length-append (skeleton_cells sk) rest in
       let g : EntriesIn ops nums s' (entries sk) = record { room = omega (arith, cells_length sk); entry = λ k b. subst (λ (c : List ℕ). entry_of c k) (sym l) (leaves_in sk h.0 rest k b) } in
-      subst (λ (y : Liveness). LiveReady ops nums y s') (sym p) g
+      subst (λ (y : Returned (Option Parts) Refusal). LiveReady ops nums y s') (sym p) g

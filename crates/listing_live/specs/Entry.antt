@@ -2,7 +2,7 @@
 --     entry_text      what an entry adds to the text
 --     entries_text    what the first n entries add
 -- `entries_text_lem` (proofs/Entries.antt): over the cells of a skeleton that stands in the table this is the skeleton's text.
-use Rattle.std.specs.Prelude.{◌≡◌, true, List, [], ◌∷◌, ◌++◌, ℕ, zero, suc, ◌+◌, ◌*◌, ◌≤◌, ◌<◌, ltb, length, get_or, drop}
+use Rattle.std.specs.Prelude.{◌≡◌, true, List, [], ◌∷◌, ◌++◌, ℕ, zero, suc, ◌+◌, ◌*◌, ◌≤◌, ◌<◌, ltb, length, get_or, drop, Option, Some, None, Result, Ok, Err}
 use Rattle.terms.specs.Choice.{pick}
 use Rattle.terms.specs.Ops.{words}
 use Rattle.formula.specs.Tree.{leaf_of}
@@ -13,8 +13,9 @@ use Rattle.split.specs.Held.{obligation_cells, owed_cells}
 use Rattle.number.specs.Digits.{decimal}
 use Rattle.text.specs.Tape.{Tape, Wrote, joined}
 use Rattle.spelling.specs.Scan.{node_text, Pure}
-use Rattle.split.specs.declared.parts.Liveness.{Liveness}
-use Rattle.split.specs.declared.parts.Liveness.TheVariants.{None, Parts, Refused}
+use Rattle.result.specs.Refusal.{number_of}
+use Rattle.result.specs.declared.Refusal.{Refusal}
+use Rattle.split.specs.declared.parts.Parts.{Parts}
 use Rattle.formula.specs.Formula.{Formula, node}
 use Rattle.spelling.specs.Spelling.{operand_text}
 use Rattle.listing_line.specs.Line.{line, marked, absent}
@@ -66,15 +67,15 @@ pub record OperandWrote (ops nums : List ℕ) (i mark : ℕ) (before after : Tap
   pub is : (f : Formula) → Spells (node_at ops nums) i f → Wrote before (marked (operand_text f) mark) after
 
 -- ---- the line of an answer, with the skeleton's cells l
-unfoldable pub live_text : List ℕ → List ℕ → Liveness → List ℕ → List ℕ
-live_text ops nums None l = line (live_word ∷ none_word ∷ absent ∷ [])
-live_text ops nums (Refused n) l = line (live_word ∷ decimal n ∷ absent ∷ [])
-live_text ops nums (Parts n o) l = line (live_word ∷ decimal 0 ∷ entries_text ops nums n l ∷ [])
+unfoldable pub live_text : List ℕ → List ℕ → Result (Option Parts) Refusal → List ℕ → List ℕ
+live_text ops nums (Ok None) l = line (live_word ∷ none_word ∷ absent ∷ [])
+live_text ops nums (Err r) l = line (live_word ∷ decimal (number_of r) ∷ absent ∷ [])
+live_text ops nums (Ok (Some p)) l = line (live_word ∷ decimal 0 ∷ entries_text ops nums p.skeleton l ∷ [])
 
-abbrev pub LiveReady : List ℕ → List ℕ → Liveness → List ℕ → Type 0
-LiveReady ops nums None l = 0 < 1
-LiveReady ops nums (Refused n) l = 0 < 1
-LiveReady ops nums (Parts n o) l = EntriesIn ops nums l n
+abbrev pub LiveReady : List ℕ → List ℕ → Result (Option Parts) Refusal → List ℕ → Type 0
+LiveReady ops nums (Ok None) l = 0 < 1
+LiveReady ops nums (Err r) l = 0 < 1
+LiveReady ops nums (Ok (Some p)) l = EntriesIn ops nums l p.skeleton
 
 -- ---- the obligations of a split, three numbers each
 pub record OwesReady (ops nums l : List ℕ) (n : ℕ) : Type 0 where

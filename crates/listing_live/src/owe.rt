@@ -7,6 +7,7 @@ ghost use Rattle.spelling.specs.Scan.{Pure};
 ghost use Rattle.listing_live.specs.Live.{owe_word};
 ghost use Rattle.listing_live.specs.Entry.{OweReady, OweWrote, OperandWrote, OwesReady, OwesWrote};
 
+use formula::table::FormulaTable;
 use listing_line::field::{put_number, put_text};
 use spelling::scan::put_operand;
 use terms::entry::UNTIL;
@@ -23,11 +24,11 @@ fn put_owe_head(out: &mut [u8], at: usize, k: u64, letter: u8) -> usize
 }
 
 // The text of the operand at i, and the mark behind it.
-fn put_owed(out: &mut [u8], at: usize, ops: &[u8], nums: &[u64], i: u64, mark: u8) -> usize
-    requires { Pure ops.now nums.now i }
-    ensures { OperandWrote ops.now nums.now i mark (tape out.old at) (tape out.new result) }
+fn put_owed(out: &mut [u8], at: usize, table: &FormulaTable, i: u64, mark: u8) -> usize
+    requires { Pure table.now.ops.now table.now.nums.now i }
+    ensures { OperandWrote table.now.ops.now table.now.nums.now i mark (tape out.old at) (tape out.new result) }
 {
-    let place = put_operand(out, at, ops, nums, i as usize);
+    let place = put_operand(out, at, table, i as usize);
     put_byte(out, place, mark)
 }
 
@@ -35,45 +36,35 @@ fn put_owed(out: &mut [u8], at: usize, ops: &[u8], nums: &[u64], i: u64, mark: u
 pub(crate) fn put_owe(
     out: &mut [u8],
     at: usize,
-    ops: &[u8],
-    nums: &[u64],
+    table: &FormulaTable,
     k: u64,
     kind: u64,
     first: u64,
     second: u64,
 ) -> usize
-    requires { OweReady ops.now nums.now kind first second }
-    ensures { OweWrote ops.now nums.now k kind first second (tape out.old at) (tape out.new result) }
+    requires { OweReady table.now.ops.now table.now.nums.now kind first second }
+    ensures { OweWrote table.now.ops.now table.now.nums.now k kind first second (tape out.old at) (tape out.new result) }
 {
     if kind < UNTIL {
         let a = put_owe_head(out, at, k, 69);
-        return put_owed(out, a, ops, nums, first, 10);
+        return put_owed(out, a, table, first, 10);
     }
     let a = put_owe_head(out, at, k, 85);
-    let b = put_owed(out, a, ops, nums, first, 9);
-    put_owed(out, b, ops, nums, second, 10)
+    let b = put_owed(out, a, table, first, 9);
+    put_owed(out, b, table, second, 10)
 }
 
 // The lines of the first n obligations, numbered from 0.
-pub fn put_owes(
-    out: &mut [u8],
-    at: usize,
-    ops: &[u8],
-    nums: &[u64],
-    owed: &[u64],
-    n: usize,
-) -> usize
-    requires { OwesReady ops.now nums.now owed.now n }
-    ensures { OwesWrote ops.now nums.now owed.now n (tape out.old at) (tape out.new result) }
+pub fn put_owes(out: &mut [u8], at: usize, table: &FormulaTable, owed: &[u64], n: usize) -> usize
+    requires { OwesReady table.now.ops.now table.now.nums.now owed.now n }
+    ensures { OwesWrote table.now.ops.now table.now.nums.now owed.now n (tape out.old at) (tape out.new result) }
 {
     let mut place = at;
-    let mut k: usize = 0;
-    while k < n {
+    for k in 0..n {
         let kind = owed[3 * k];
         let first = owed[3 * k + 1];
         let second = owed[3 * k + 2];
-        place = put_owe(out, place, ops, nums, k as u64, kind, first, second);
-        k += 1;
+        place = put_owe(out, place, table, k as u64, kind, first, second);
     }
     place
 }

@@ -1,12 +1,12 @@
 -- EVERY OLD BOOK LISTS AS IT DID, WITH `plan` PUT IN.
 use mathlib.Core.Path.{◌≡◌, refl, sym, ap, ap₂, subst, ◌∙◌}
 use mathlib.Core.List.{List, [], ◌++◌}
-use Prim.Native.Nat.{ℕ, ◌+◌}
+use Prim.Native.Nat.{ℕ}
 use lib.ListN.{length}
 use Rattle.plan.specs.Width.{first_power, ceil_log2}
 use Rattle.encoding.specs.Encoding.{slot_bits, monitors_base}
 use Rattle.book.specs.Book.{Book, count_in, Outcome, accepted, refused}
-use Rattle.book.specs.declared.state.States.{States}
+use Rattle.std.specs.Prelude.{Option}
 use Rattle.book_laws.specs.Before.{read_before, NoOpening, Unopened}
 use Rattle.book_laws.proofs.AsBefore.{reads_as_before, accepted_as_before}
 use Rattle.listing_line.specs.Plan.{plan_line}
@@ -26,7 +26,7 @@ unopened_listing b u =
     record {
       was = refl;
       is =
-          ap₂ (λ (c : States) (ws : List ℕ). rules_listing (count_in c) ws (rule_at b) n b.steps) u.states u.widths
+          ap₂ (λ (c : Option ℕ) (ws : List ℕ). rules_listing (count_in c) ws (rule_at b) n b.steps) u.states u.widths
           ∙ ap (λ (k : ℕ). rules_text k (rule_at b) n ++ (plan_line (encoding_for 0 [] (rule_at b) n) ++ tail_before b)) no_base;
     }
 

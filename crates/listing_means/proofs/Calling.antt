@@ -8,7 +8,7 @@ use Prim.Native.Nat.{ℕ, zero, suc, ◌+◌, ◌<◌}
 use native.Mathlib.Omega.{arith}
 use native.Mathlib.Nat.{add-zero, zero-add}
 use Rattle.formula.proofs.Cases.{true_false}
-use Rattle.meaning.specs.State.{failed, culprit}
+use Rattle.meaning.specs.State.{failed}
 use Rattle.book.specs.Book.{StepLine}
 use Rattle.listing_rules.specs.Rules.{Rule, compiles, mon}
 use Rattle.listing_reports.specs.Reports.{States, fresh_states, next_states, Report, breaks, report_of, reports_at, reports, book_reports}

@@ -2,7 +2,7 @@
 use mathlib.Core.Path.{◌≡◌, refl, sym, ap, ap₂, subst, ◌∙◌}
 use mathlib.Core.List.{List, [], ◌∷◌, ◌++◌}
 use mathlib.Core.Option.{Option, none, some}
-use Prim.Native.Nat.{ℕ, zero, suc, ◌+◌, ◌-◌, ◌*◌, ◌≤◌, ◌<◌}
+use Prim.Native.Nat.{ℕ, zero, suc, ◌+◌, ◌*◌, ◌≤◌, ◌<◌}
 use native.Mathlib.Omega.{arith}
 use native.Mathlib.Numerals.{add-one}
 use native.Mathlib.Nat.{add-zero}
@@ -18,8 +18,7 @@ use Rattle.monitor.specs.declared.node.SignalExpr.{SignalExpr}
 use Rattle.monitor.specs.declared.node.SignalExpr.TheVariants.{True, At}
 use Rattle.monitor.specs.declared.node.MonNode.{MonNode}
 use Rattle.monitor.specs.declared.node.MonNode.TheVariants.{RangeCheck, DelayedCheck, Obligation, And as AndNode, Or as OrNode}
-use Rattle.monitor.specs.declared.node.Row.{Row}
-use Rattle.monitor.specs.declared.node.Row.TheVariants.{Node, Unknown}
+use Rattle.std.specs.Prelude.{None, Option as Opt, Some}
 use Rattle.monitor.specs.Mon.{Signal, always_true, Check, range_check, delayed_check, obligation, Mon, count, expr_of}
 use Rattle.monitor.specs.Table.{row_of, signal_of, Never, Join, join_and, join_or, Cell, checked, cell_of, cell_by, cells, from_tree, compiled_of}
 use Rattle.monitor.proofs.Signals.{signal_inv}
@@ -65,7 +64,7 @@ module _ (ops nums : List ℕ) (first n : ℕ) (f : Formula) (u : Rule ops nums 
       }
 
   -- ---- the line of a row
-  row_line : (k : ℕ) (m : MonNode) (b c : Tape) → KnownToken (cell_of f first (Node m)) → NodeWrote ops nums k m b c → Wrote b (cell_line k (cell_of f first (Node m))) c
+  row_line : (k : ℕ) (m : MonNode) (b c : Tape) → KnownToken (cell_of f first (Some m)) → NodeWrote ops nums k m b c → Wrote b (cell_line k (cell_of f first (Some m))) c
   unfolding cell_line
   row_line k (RangeCheck s r) b c g w = go (signal_of f first s) refl g
     where
@@ -103,7 +102,7 @@ module _ (ops nums : List ℕ) (first n : ℕ) (f : Formula) (u : Rule ops nums 
   row_line k AndNode b c g w = w.of_and refl
   row_line k OrNode b c g w = w.of_or refl
 
-  row_ready : (m : MonNode) → KnownToken (cell_of f first (Node m)) → NodeReady ops nums m
+  row_ready : (m : MonNode) → KnownToken (cell_of f first (Some m)) → NodeReady ops nums m
   row_ready (RangeCheck s r) g = go (signal_of f first s) refl g
     where
       go : (o : Option Signal) → signal_of f first s ≡ o → KnownToken (checked (λ x. leaf_of (range_check x r)) o) → NodeReady ops nums (RangeCheck s r)
@@ -200,11 +199,11 @@ module _ (ops nums nodes : List ℕ) (nfirst ncount : ℕ) where
       let (f, t, x, y) = held_inv ops nums g.first g.count nodes nfirst ncount g.mon g.is in
       omega (arith, x.in_nodes)
 
-  module _ (k : ℕ) (row : Row) (h : k < ncount) (r : row ≡ row_of nodes (nfirst + k)) where
+  module _ (k : ℕ) (row : Opt MonNode) (h : k < ncount) (r : row ≡ row_of nodes (nfirst + k)) where
     -- what stands in the row, for a rule that the tables hold
     is_cell : (first n : ℕ) (f : Formula) → rule_of ops nums first n ≡ some f → cells ops nums first n nodes (nfirst + k) ≡ cell_of f first row
     unfolding cells
-    is_cell first n f e = ap₂ (λ (o : Option Formula) (x : Row). cell_by o first x) e (sym r)
+    is_cell first n f e = ap₂ (λ (o : Option Formula) (x : Opt MonNode). cell_by o first x) e (sym r)
 
     known_row :
         (first n : ℕ) (m : Mon) → compiled_of ops nums first n nodes nfirst ncount ≡ some m
@@ -214,26 +213,26 @@ module _ (ops nums nodes : List ℕ) (nfirst ncount : ℕ) where
         let c = is_cell first n f x.rule in
         (f, rule_inv ops nums first n f x.rule, c, subst KnownToken c (known_token _ (known_at (cells ops nums first n nodes) nfirst t k x.spells (omega (arith, x.covers)))))
 
-    pub noded_unknown : (a b : Tape) → row ≡ Unknown → NodesWrote ops nums nodes nfirst ncount a b
+    pub noded_unknown : (a b : Tape) → row ≡ None → NodesWrote ops nums nodes nfirst ncount a b
     noded_unknown a b q = record {
       is = λ first n m e.
           let (f, u, c, g) = known_row first n m e in
-          absurd (subst (λ (x : Row). KnownToken (cell_of f first x)) q g);
+          absurd (subst (λ (x : Opt MonNode). KnownToken (cell_of f first x)) q g);
     }
 
-    module _ (node : MonNode) (q : row ≡ Node node) where
+    module _ (node : MonNode) (q : row ≡ Some node) where
       pub noded_ready : Compiled ops nums nodes nfirst ncount → NodeReady ops nums node
       noded_ready g =
           let (f, u, c, x) = known_row g.first g.count g.mon g.is in
-          row_ready ops nums g.first g.count f u node (subst (λ (y : Row). KnownToken (cell_of f g.first y)) q x)
+          row_ready ops nums g.first g.count f u node (subst (λ (y : Opt MonNode). KnownToken (cell_of f g.first y)) q x)
 
       pub noded_next : (a b c : Tape) → Noded ops nums nodes nfirst ncount k a b → NodeWrote ops nums k node b c → Noded ops nums nodes nfirst ncount (k + 1) a c
       noded_next a b c s w = record {
         high = omega arith;
         wrote = λ first n m e.
             let (f, u, z, g) = known_row first n m e in
-            let l : Wrote b (cell_line k (cell_of f first (Node node))) c = row_line ops nums first n f u k node b c (subst (λ (y : Row). KnownToken (cell_of f first y)) q g) w in
-            let d : cell_line k (cells ops nums first n nodes (nfirst + k)) ≡ cell_line k (cell_of f first (Node node)) = ap (cell_line k) (z ∙ ap (cell_of f first) q) in
+            let l : Wrote b (cell_line k (cell_of f first (Some node))) c = row_line ops nums first n f u k node b c (subst (λ (y : Opt MonNode). KnownToken (cell_of f first y)) q g) w in
+            let d : cell_line k (cells ops nums first n nodes (nfirst + k)) ≡ cell_line k (cell_of f first (Some node)) = ap (cell_line k) (z ∙ ap (cell_of f first) q) in
             as_text a c (sofar_next (cells ops nums first n nodes) nfirst k) (then (s.wrote first n m e) (as_text b c d l));
       }
 

@@ -17,20 +17,22 @@ use Rattle.formula.proofs.Rules.{rule_inv, both_long}
 use Rattle.monitor.specs.Range.{all_of}
 use Rattle.monitor.specs.Mon.{Mon, count}
 use Rattle.monitor.specs.Compile.{rule_faults, rule_node}
-use Rattle.compiler.specs.declared.Compiled.{Compiled}
-use Rattle.compiler.specs.declared.Compiled.TheVariants.{Nodes, Refused}
-use Rattle.compiler.specs.Compiled.{result_of, Call, first_or, compile_formula, or_short, rule_call, compile_call, Answers}
+use Rattle.std.specs.Prelude.{Ok, Err}
+use Rattle.std.specs.Prelude.{Result as Returned}
+use Rattle.result.specs.Refusal.{number_of, told}
+use Rattle.result.specs.declared.Refusal.{Refusal}
+use Rattle.compiler.specs.Compiled.{Call, first_or, compile_formula, or_short, rule_call, compile_call, Answers}
 use Rattle.compiler.proofs.Joining.{count_size, rows_length}
 use Rattle.listing_rules.specs.Rules.{Rule, first_of, refusal, mon}
 use Rattle.listing_rules.specs.Made.{answer_by, rows_by, count_by, rows_of, count_of, RuleStands, Made, Entering}
 
 -- ---- the numbers of one rule
 -- a rule has at most one row for each of its nodes
-count_by_lem : (fs : List ℕ) (m : Mon) (k : ℕ) → count m ≤ k → count_by fs m ≤ k
+count_by_lem : (fs : List Refusal) (m : Mon) (k : ℕ) → count m ≤ k → count_by fs m ≤ k
 count_by_lem [] m k h = h
 count_by_lem (n ∷ ns) m k h = omega arith
 
-length_by : (fs : List ℕ) (m : Mon) → length (rows_by fs m) ≡ 7 * count_by fs m
+length_by : (fs : List Refusal) (m : Mon) → length (rows_by fs m) ≡ 7 * count_by fs m
 length_by [] m = rows_length m
 length_by (n ∷ ns) m = refl
 
@@ -63,11 +65,11 @@ sets_part l vs a h =
     ∙ sym (sets-eq vs l a h)
 
 -- ---- the call
-answer_is : (fs : List ℕ) (m : Mon) (out : List ℕ) → (first_or fs m out).answer ≡ answer_by fs m
+answer_is : (fs : List Refusal) (m : Mon) (out : List ℕ) → (first_or fs m out).answer ≡ answer_by fs m
 answer_is [] m out = refl
 answer_is (n ∷ ns) m out = refl
 
-out_is : (fs : List ℕ) (m : Mon) (out : List ℕ) → (first_or fs m out).out ≡ sets out 0 (rows_by fs m)
+out_is : (fs : List Refusal) (m : Mon) (out : List ℕ) → (first_or fs m out).out ≡ sets out 0 (rows_by fs m)
 out_is [] m out = refl
 out_is (n ∷ ns) m out = refl
 
@@ -87,7 +89,7 @@ module _ (ops nums : List ℕ) (first count' i : ℕ) (nodes : List ℕ) (h : 10
         ∙ ap (λ (x : ℕ). first_or (rule_faults q.formula) (rule_node q.formula x) lent) (sym s.place)
 
   pub made :
-      (ys : List ℕ) (r : Compiled) → Answers (compile_call ops nums first count' lent) r ys
+      (ys : List ℕ) (r : Returned ℕ Refusal) → Answers (compile_call ops nums first count' lent) r ys
       → Made ops nums first count' i nodes (take (7 * i) nodes ++ (ys ++ drop (length nodes - 7 * i) (drop (7 * i) nodes))) r
   made ys r a = record {
     answers = λ q s. a.answers ∙ ap (λ (x : Call). x.answer) (called q s) ∙ answer_is (rule_faults q.formula) (mon q) lent;
@@ -98,21 +100,21 @@ module _ (ops nums : List ℕ) (first count' i : ℕ) (nodes : List ℕ) (h : 10
   }
 
 -- ---- entered in the lists
-by_nodes : (fs : List ℕ) (m : Mon) (k : ℕ) → given k ≡ answer_by fs m → (count_by fs m ≡ k) × (first_of fs ≡ 0)
+by_nodes : (fs : List Refusal) (m : Mon) (k : ℕ) → given k ≡ answer_by fs m → (count_by fs m ≡ k) × (first_of fs ≡ 0)
 by_nodes [] m k e = (cc, refl)
 by_nodes (n ∷ ns) m k e = let z : ◌≡◌ {A = ℕ} 0 1 = cc in absurd (omega arith)
 
-by_refusal : (fs : List ℕ) (m : Mon) (k : ℕ) → refused k ≡ answer_by fs m → (count_by fs m ≡ 0) × (first_of fs ≡ k)
+by_refusal : (fs : List Refusal) (m : Mon) (k : ℕ) → refused k ≡ answer_by fs m → (count_by fs m ≡ 0) × (first_of fs ≡ k)
 by_refusal [] m k e = let z : ◌≡◌ {A = ℕ} 0 1 = cc in absurd (omega arith)
 by_refusal (n ∷ ns) m k e = (refl, cc)
 
-module _ (ops nums : List ℕ) (first count' i : ℕ) (nodes nodes' : List ℕ) (c : Compiled) (u : Made ops nums first count' i nodes nodes' c) (k : ℕ) where
-  module _ (e : c ≡ Nodes k) where
+module _ (ops nums : List ℕ) (first count' i : ℕ) (nodes nodes' : List ℕ) (c : Returned ℕ Refusal) (u : Made ops nums first count' i nodes nodes' c) where
+  module _ (k : ℕ) (e : c ≡ Ok k) where
     pub some_fits : IsRule ops nums first count' → i ≤ 1024 → Fits w64 (i + k)
     some_fits p h =
         let q : Rule = record { label = []; kind = 0; first = first; formula = p.formula } in
         let s : RuleStands ops nums first count' q = record { formula = p.is; place = refl } in
-        let (x, y) = by_nodes (rule_faults q.formula) (mon q) k (sym (ap result_of e) ∙ u.answers q s) in
+        let (x, y) = by_nodes (rule_faults q.formula) (mon q) k (sym (ap told e) ∙ u.answers q s) in
         record { fits = omega (arith, count_few ops nums first count' q s) }
 
     pub some_entered :
@@ -121,7 +123,7 @@ module _ (ops nums : List ℕ) (first count' i : ℕ) (nodes nodes' : List ℕ) 
     unfolding refusal
     some_entered r nfirsts ncounts refusals = record {
       is = λ q s.
-          let (x, y) = by_nodes (rule_faults q.formula) (mon q) k (sym (ap result_of e) ∙ u.answers q s) in
+          let (x, y) = by_nodes (rule_faults q.formula) (mon q) k (sym (ap told e) ∙ u.answers q s) in
           record {
             ends = ap (λ (v : ℕ). i + v) (sym x);
             rows_are = u.leaves q s;
@@ -131,14 +133,14 @@ module _ (ops nums : List ℕ) (first count' i : ℕ) (nodes nodes' : List ℕ) 
           };
     }
 
-  module _ (e : c ≡ Refused k) where
+  module _ (x : Refusal) (k : ℕ) (e : c ≡ Err x) (f : k ≡ number_of x) where
     pub none_entered :
         (r : ℕ) (nfirsts ncounts refusals : List ℕ)
         → Entering ops nums first count' r i i nodes nodes' nfirsts (set nfirsts r i) ncounts (set ncounts r 0) refusals (set refusals r k)
     unfolding refusal
     none_entered r nfirsts ncounts refusals = record {
       is = λ q s.
-          let (x, y) = by_refusal (rule_faults q.formula) (mon q) k (sym (ap result_of e) ∙ u.answers q s) in
+          let (x, y) = by_refusal (rule_faults q.formula) (mon q) k (ap refused f ∙ sym (ap told e) ∙ u.answers q s) in
           record {
             ends = omega arith;
             rows_are = u.leaves q s;

@@ -11,34 +11,33 @@ use lib.ListN.{get_or}
 use Rattle.formula.proofs.Cases.{below_or}
 use Rattle.alike.specs.Alike.{alike_mon, part_of, alike_some}
 use Rattle.alike.specs.Rows.{IsCompiled}
-use Rattle.alike.specs.declared.Part.{Part}
-use Rattle.listing_line.specs.declared.rule.Alike.{Alike}
-use Rattle.listing_line.specs.declared.rule.Alike.TheVariants.{To, Nothing}
+use Rattle.monitor.specs.declared.table.Part.{Part}
+use Rattle.std.specs.Prelude.{None, Option, Some}
 use Rattle.listing_rules.specs.Rules.{Rule, compiles, mon, like_of, or_at, first_below}
 use Rattle.listing_rules.specs.Tabled.{Tabled}
 use Rattle.listing_rules.specs.Answers.{KnownRule, Like, Earlier}
 use Rattle.listing_rules.proofs.Refusals.{zero_compiles, other_refused}
 
 -- ---- the least number
-or_at_lem : (a : Alike) (b : Bool) (q : ℕ) → a ≡ Nothing → b ≡ true → or_at a b q ≡ To q
-or_at_lem a b q e f = ap₂ (λ (x : Alike) (y : Bool). or_at x y q) e f
+or_at_lem : (a : Option ℕ) (b : Bool) (q : ℕ) → a ≡ None → b ≡ true → or_at a b q ≡ Some q
+or_at_lem a b q e f = ap₂ (λ (x : Option ℕ) (y : Bool). or_at x y q) e f
 
-or_none : (a : Alike) (b : Bool) (q : ℕ) → a ≡ Nothing → b ≡ false → or_at a b q ≡ Nothing
-or_none a b q e f = ap₂ (λ (x : Alike) (y : Bool). or_at x y q) e f
+or_none : (a : Option ℕ) (b : Bool) (q : ℕ) → a ≡ None → b ≡ false → or_at a b q ≡ None
+or_none a b q e f = ap₂ (λ (x : Option ℕ) (y : Bool). or_at x y q) e f
 
-module _ (like : ℕ → Bool) (q : ℕ) (e : first_below like q ≡ Nothing) where
-  none_more : like q ≡ false → first_below like (q + 1) ≡ Nothing
+module _ (like : ℕ → Bool) (q : ℕ) (e : first_below like q ≡ None) where
+  none_more : like q ≡ false → first_below like (q + 1) ≡ None
   unfolding first_below
   none_more f = ap (first_below like) (add-one q) ∙ or_none (first_below like q) (like q) q e f
 
-  found_below : like q ≡ true → (r : ℕ) → q < r → first_below like r ≡ To q
+  found_below : like q ≡ true → (r : ℕ) → q < r → first_below like r ≡ Some q
   unfolding first_below
   found_below f zero h = absurd (omega arith)
   found_below f (suc r) h = ⊎_elim
-      (λ l. ap (λ (x : Alike). or_at x (like r) r) (found_below f r l))
+      (λ l. ap (λ (x : Option ℕ). or_at x (like r) r) (found_below f r l))
       (λ l.
       let z : q ≡ r = omega arith in
-      subst (λ (k : ℕ). or_at (first_below like k) (like k) k ≡ To q) z (or_at_lem (first_below like q) (like q) q e f))
+      subst (λ (k : ℕ). or_at (first_below like k) (like k) k ≡ Some q) z (or_at_lem (first_below like q) (like q) q e f))
       (below_or q r)
 
 -- ---- two rules of the tables
@@ -78,20 +77,20 @@ module _ (ops nums firsts counts nodes nfirsts ncounts refusals : List ℕ) wher
   -- ---- the loop
   pub record Passed (r q : ℕ) : Type 0 where
     pub within : q ≤ r
-    pub none_like : (R : ℕ → Rule) (n : ℕ) → Tabled ops nums firsts counts nodes nfirsts ncounts refusals R n → r < n → compiles (R r) ≡ true → first_below (like_of R r) q ≡ Nothing
+    pub none_like : (R : ℕ → Rule) (n : ℕ) → Tabled ops nums firsts counts nodes nfirsts ncounts refusals R n → r < n → compiles (R r) ≡ true → first_below (like_of R r) q ≡ None
 
   pub passed_none : (r : ℕ) → Passed r 0
   unfolding first_below
   passed_none r = record { within = omega arith; none_like = λ R n t i c. refl }
 
   module _ (r q : ℕ) (u : Passed r q) where
-    pub none_earlier : r ≤ q → Earlier ops nums firsts counts nodes nfirsts ncounts refusals r Nothing
+    pub none_earlier : r ≤ q → Earlier ops nums firsts counts nodes nfirsts ncounts refusals r None
     none_earlier h =
         let z : q ≡ r = omega (arith, u.within) in
         record { is = λ R n t i c. sym (sym (ap (first_below (like_of R r)) z) ∙ u.none_like R n t i c) }
 
     module _ (h : q < r) (b : Bool) (w : Like ops nums firsts counts nodes nfirsts ncounts refusals q r b) where
-      pub earlier_found : b ≡ true → Earlier ops nums firsts counts nodes nfirsts ncounts refusals r (To q)
+      pub earlier_found : b ≡ true → Earlier ops nums firsts counts nodes nfirsts ncounts refusals r (Some q)
       earlier_found e = record {
         is = λ R n t i c. sym (found_below (like_of R r) q (u.none_like R n t i c) (sym (w.is R n t i c) ∙ e) r h);
       }

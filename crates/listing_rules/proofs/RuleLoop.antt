@@ -10,6 +10,7 @@ use Prim.Native.Nat.{ℕ, ◌+◌, ◌*◌, ◌≤◌, ◌<◌}
 use native.Mathlib.Omega.{arith}
 use lib.ListN.{length, get_or, set, length-set}
 use lib.Seq.{sets, length-sets, get_or-set_same, get_or-set_other}
+use Rattle.result.specs.declared.Refusal.{Refusal}
 use Rattle.formula.specs.Table.{rule_of, IsRule}
 use Rattle.formula.proofs.Cases.{below_or}
 use Rattle.formula.proofs.Rules.{rule_inv}
@@ -123,10 +124,10 @@ module _ {ops nums kinds firsts counts : List ℕ} {R : ℕ → Rule} {n : ℕ} 
     (nodes nfirsts ncounts refusals : List ℕ) (in_nodes : 8960 ≤ length nodes) (s : SoFar R n n i firsts nodes nfirsts ncounts refusals) where
   module _ (r : ℕ) (h : r < n) (c : compiles (R r) ≡ true) where
     rows_there : rows_of (R r) ≡ rows (mon (R r))
-    rows_there = ap (λ (fs : List ℕ). rows_by fs (mon (R r))) (no_faults (R r) c)
+    rows_there = ap (λ (fs : List Refusal). rows_by fs (mon (R r))) (no_faults (R r) c)
 
     count_there : count_of (R r) ≡ count (mon (R r))
-    count_there = ap (λ (fs : List ℕ). count_by fs (mon (R r))) (no_faults (R r) c)
+    count_there = ap (λ (fs : List Refusal). count_by fs (mon (R r))) (no_faults (R r) c)
 
     reads : compiled_of ops nums (get_or firsts r 0) (get_or counts r 0) nodes (get_or nfirsts r 0) (get_or ncounts r 0) ≡ some (mon (R r))
     unfolding mon

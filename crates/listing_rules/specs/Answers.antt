@@ -5,12 +5,11 @@
 --     Places    first bits and bits, the monitors beginning at bit `base`
 --     Encodes   the numbers of the whole configuration
 --     ToldRule      the last four fields of rule r's line
-use Rattle.std.specs.Prelude.{Bool, true, List, ◌≡◌, ℕ, ◌^◌, ◌≤◌, ◌<◌, length}
+use Rattle.std.specs.Prelude.{Bool, true, List, ◌≡◌, ℕ, ◌^◌, ◌≤◌, ◌<◌, length, Option, Result}
 use Rattle.terms.specs.Limits.{book_rules}
 use Rattle.encoding.specs.declared.ConfigEncoding.{ConfigEncoding}
 use Rattle.encoding.specs.Encoding.{state_bits_of, slot_bits}
-use Rattle.listing_line.specs.declared.rule.Alike.{Alike}
-use Rattle.listing_line.specs.declared.rule.Compiling.{Compiling}
+use Rattle.listing_line.specs.declared.rule.Compiled.{Compiled}
 use Rattle.listing_rules.specs.Rules.{Rule, compiles, like_of, first_below, compiling_of, encoding_for}
 use Rattle.listing_rules.specs.Tabled.{Held, Tabled, Placed}
 
@@ -27,7 +26,7 @@ module _ (ops nums firsts counts nodes nfirsts ncounts refusals : List ℕ) wher
   pub record Like (q r : ℕ) (b : Bool) : Type 0 where
     pub is : (R : ℕ → Rule) (n : ℕ) → Tabled ops nums firsts counts nodes nfirsts ncounts refusals R n → r < n → compiles (R r) ≡ true → b ≡ like_of R r q
 
-  pub record Earlier (r : ℕ) (a : Alike) : Type 0 where
+  pub record Earlier (r : ℕ) (a : Option ℕ) : Type 0 where
     pub is : (R : ℕ → Rule) (n : ℕ) → Tabled ops nums firsts counts nodes nfirsts ncounts refusals R n → r < n → compiles (R r) ≡ true → a ≡ first_below (like_of R r) r
 
 -- ---- layout
@@ -77,7 +76,7 @@ module _ (ops nums firsts counts nodes nfirsts ncounts refusals starts bits : Li
     pub placed : Placed base rules many starts bits
     pub inside : r < many
 
-  pub record ToldRule (r : ℕ) (c : Compiling) : Type 0 where
+  pub record ToldRule (r : ℕ) (c : Result Compiled ℕ) : Type 0 where
     pub is :
         (base : ℕ) (R : ℕ → Rule) (n : ℕ) → Tabled ops nums firsts counts nodes nfirsts ncounts refusals R n → Placed base R n starts bits → r < n
         → c ≡ compiling_of base R n r

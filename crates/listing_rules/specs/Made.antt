@@ -10,21 +10,22 @@ use Rattle.result.specs.Result.{Result, given, refused}
 use Rattle.formula.specs.Table.{rule_of, IsRule}
 use Rattle.monitor.specs.Mon.{Mon, count, rows}
 use Rattle.monitor.specs.Compile.{rule_faults}
-use Rattle.compiler.specs.declared.Compiled.{Compiled}
-use Rattle.compiler.specs.Compiled.{result_of}
+use Rattle.std.specs.Prelude.{Result as Returned}
+use Rattle.result.specs.Refusal.{number_of, told}
+use Rattle.result.specs.declared.Refusal.{Refusal}
 use Rattle.listing_rules.specs.Rules.{Rule, refusal, mon}
 use Rattle.listing_rules.specs.Tabled.{Held, Tabled}
 
 -- by the refusals that apply and the rule's node: the result, the rows and their count
-abbrev pub answer_by : List ℕ → Mon → Result ℕ
+abbrev pub answer_by : List Refusal → Mon → Result ℕ
 answer_by [] m = given (count m)
-answer_by (n ∷ ns) m = refused n
+answer_by (n ∷ ns) m = refused (number_of n)
 
-abbrev pub rows_by : List ℕ → Mon → List ℕ
+abbrev pub rows_by : List Refusal → Mon → List ℕ
 rows_by [] m = rows m
 rows_by (n ∷ ns) m = []
 
-abbrev pub count_by : List ℕ → Mon → ℕ
+abbrev pub count_by : List Refusal → Mon → ℕ
 count_by [] m = count m
 count_by (n ∷ ns) m = 0
 
@@ -43,8 +44,8 @@ pub record RuleStands (ops nums : List ℕ) (first count : ℕ) (q : Rule) : Typ
   pub place : q.first ≡ first
 
 -- ---- one rule
-pub record Made (ops nums : List ℕ) (first count at : ℕ) (nodes nodes' : List ℕ) (r : Compiled) : Type 0 where
-  pub answers : (q : Rule) → RuleStands ops nums first count q → result_of r ≡ answer_of q
+pub record Made (ops nums : List ℕ) (first count at : ℕ) (nodes nodes' : List ℕ) (r : Returned ℕ Refusal) : Type 0 where
+  pub answers : (q : Rule) → RuleStands ops nums first count q → told r ≡ answer_of q
   pub leaves : (q : Rule) → RuleStands ops nums first count q → nodes' ≡ sets nodes (7 * at) (rows_of q)
 
 -- what entering rule r asks: it is a rule, its rows have room, and it is in the lists

@@ -1,7 +1,9 @@
 -- The rules of a book, numbered from 0 in book order, and what document 01 says of each: its compiled node or its refusal, its first bit and its
 -- bits, the first earlier rule that is alike. The monitors begin at bit `base` (document 02, order 1).
-use Rattle.std.specs.Prelude.{Bool, true, false, ◌&&◌, List, [], ◌∷◌, ℕ, zero, suc, eqb}
+use Rattle.std.specs.Prelude.{Bool, true, false, ◌&&◌, List, [], ◌∷◌, ℕ, zero, suc, eqb, None, Option, Some, Result, Err}
 use Rattle.terms.specs.Choice.{pick}
+use Rattle.result.specs.Refusal.{number_of}
+use Rattle.result.specs.declared.Refusal.{Refusal}
 use Rattle.formula.specs.Formula.{Formula}
 use Rattle.monitor.specs.Mon.{Mon}
 use Rattle.monitor.specs.Compile.{rule_faults, rule_node}
@@ -10,10 +12,8 @@ use Rattle.plan.specs.Book.{first_bit}
 use Rattle.encoding.specs.declared.ConfigEncoding.{ConfigEncoding}
 use Rattle.encoding.specs.Encoding.{encoding_of}
 use Rattle.alike.specs.Alike.{alike_mon}
-use Rattle.listing_line.specs.declared.rule.Alike.{Alike}
-use Rattle.listing_line.specs.declared.rule.Alike.TheVariants.{To, Nothing}
-use Rattle.listing_line.specs.declared.rule.Compiling.{Compiling}
-use Rattle.listing_line.specs.declared.rule.Compiling.TheVariants.{Compiled, Refused}
+use Rattle.listing_line.specs.declared.rule.Compiled.{Compiled}
+use Rattle.listing_line.specs.Rule.{compiled_as}
 
 -- a rule: its label, its kind (0 property, else assumption), its formula, and the place in the formula table where that begins
 pub record Rule : Type 0 where
@@ -26,13 +26,13 @@ abbrev pub property : Rule → Bool
 property q = eqb q.kind 0
 
 -- ---- compiling
-abbrev pub is_none : List ℕ → Bool
+abbrev pub is_none : List Refusal → Bool
 is_none [] = true
 is_none (n ∷ ns) = false
 
-abbrev pub first_of : List ℕ → ℕ
+abbrev pub first_of : List Refusal → ℕ
 first_of [] = 0
-first_of (n ∷ ns) = n
+first_of (n ∷ ns) = number_of n
 
 -- no refusal applies
 unfoldable pub compiles : Rule → Bool
@@ -62,19 +62,19 @@ encoding_for count ws R n = encoding_of count ws n (λ (q : ℕ). compiles (R q)
 unfoldable pub like_of : (ℕ → Rule) → ℕ → ℕ → Bool
 like_of R r q = compiles (R q) && alike_mon (mon (R q)) (mon (R r))
 
-abbrev pub or_at : Alike → Bool → ℕ → Alike
-or_at (To q) b r = To q
-or_at Nothing true r = To r
-or_at Nothing false r = Nothing
+abbrev pub or_at : Option ℕ → Bool → ℕ → Option ℕ
+or_at (Some q) b r = Some q
+or_at None true r = Some r
+or_at None false r = None
 
 -- the least number below r of which `like` holds
-unfoldable pub first_below : (ℕ → Bool) → ℕ → Alike
-first_below like zero = Nothing
+unfoldable pub first_below : (ℕ → Bool) → ℕ → Option ℕ
+first_below like zero = None
 first_below like (suc r) = or_at (first_below like r) (like r) r
 
 -- ---- the four last fields of a rule's line
-unfoldable pub compiling_of : ℕ → (ℕ → Rule) → ℕ → ℕ → Compiling
+unfoldable pub compiling_of : ℕ → (ℕ → Rule) → ℕ → ℕ → Result Compiled ℕ
 compiling_of base R n r =
     pick (compiles (R r))
-    (Compiled (first_bit_of base R n r) (bits_of (R r)) (first_below (like_of R r) r))
-    (Refused (refusal (R r)))
+    (compiled_as (first_bit_of base R n r) (bits_of (R r)) (first_below (like_of R r) r))
+    (Err (refusal (R r)))

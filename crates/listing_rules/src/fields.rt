@@ -2,36 +2,30 @@
 ghost use Rattle.listing_rules.specs.Answers.{Tellable, ToldRule};
 
 use crate::likeness::first_alike;
-use listing_line::rule::Compiling;
+use listing_line::rule::Compiled;
+use monitor::table::Tables;
+use plan::layout::RuleList;
 
 // The refusal of rule r, or its first bit, its bits and its likeness.
 pub fn compiling_at(
-    ops: &[u8],
-    nums: &[u64],
-    firsts: &[usize],
-    counts: &[usize],
-    nodes: &[u64],
-    nfirsts: &[usize],
-    ncounts: &[usize],
-    refusals: &[u64],
+    tables: &Tables,
+    rules: &RuleList,
     starts: &[u64],
     bits: &[u64],
     r: usize,
-) -> Compiling
-    requires { Tellable ops.now nums.now firsts.now counts.now nodes.now nfirsts.now ncounts.now refusals.now starts.now bits.now r }
-    ensures { ToldRule ops.now nums.now firsts.now counts.now nodes.now
-        nfirsts.now ncounts.now refusals.now starts.now bits.now r result }
+) -> Result<Compiled, u64>
+    requires { Tellable tables.now.formulas.ops.now tables.now.formulas.nums.now rules.now.firsts.now rules.now.counts.now tables.now.nodes.now rules.now.nfirsts.now rules.now.ncounts.now rules.now.refusals.now starts.now bits.now r }
+    ensures { ToldRule tables.now.formulas.ops.now tables.now.formulas.nums.now rules.now.firsts.now rules.now.counts.now tables.now.nodes.now
+        rules.now.nfirsts.now rules.now.ncounts.now rules.now.refusals.now starts.now bits.now r result }
 {
-    let m = refusals[r];
+    let m = rules.refusals[r];
     if m != 0 {
-        return Compiling::Refused(m);
+        return Err(m);
     }
-    let alike = first_alike(
-        ops, nums, firsts, counts, nodes, nfirsts, ncounts, refusals, r,
-    );
-    Compiling::Compiled {
+    let alike = first_alike(tables, rules, r);
+    Ok(Compiled {
         first: starts[r],
         bits: bits[r],
         alike,
-    }
+    })
 }

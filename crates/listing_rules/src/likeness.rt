@@ -2,69 +2,44 @@
 ghost use Rattle.std.specs.Prelude.{◌<◌};
 ghost use Rattle.listing_rules.specs.Answers.{KnownRule, Like, Earlier};
 
-use alike::Part;
 use alike::node::same_nodes;
-use listing_line::rule::Alike;
+use monitor::table::{Part, Tables};
+use plan::layout::RuleList;
 
 // Whether rule q compiles and is like rule r.
-fn is_like(
-    ops: &[u8],
-    nums: &[u64],
-    firsts: &[usize],
-    counts: &[usize],
-    nodes: &[u64],
-    nfirsts: &[usize],
-    ncounts: &[usize],
-    refusals: &[u64],
-    q: usize,
-    r: usize,
-) -> bool
-    requires { KnownRule ops.now nums.now firsts.now counts.now nodes.now nfirsts.now ncounts.now refusals.now r × (q < r) }
-    ensures { Like ops.now nums.now firsts.now counts.now nodes.now
-        nfirsts.now ncounts.now refusals.now q r result }
+fn is_like(tables: &Tables, rules: &RuleList, q: usize, r: usize) -> bool
+    requires { KnownRule tables.now.formulas.ops.now tables.now.formulas.nums.now rules.now.firsts.now rules.now.counts.now tables.now.nodes.now rules.now.nfirsts.now rules.now.ncounts.now rules.now.refusals.now r × (q < r) }
+    ensures { Like tables.now.formulas.ops.now tables.now.formulas.nums.now rules.now.firsts.now rules.now.counts.now tables.now.nodes.now
+        rules.now.nfirsts.now rules.now.ncounts.now rules.now.refusals.now q r result }
 {
-    if refusals[q] != 0 {
+    if rules.refusals[q] != 0 {
         return false;
     }
     let a = Part {
-        first: firsts[q],
-        count: counts[q],
-        nfirst: nfirsts[q],
-        ncount: ncounts[q],
+        first: rules.firsts[q],
+        count: rules.counts[q],
+        nfirst: rules.nfirsts[q],
+        ncount: rules.ncounts[q],
     };
     let b = Part {
-        first: firsts[r],
-        count: counts[r],
-        nfirst: nfirsts[r],
-        ncount: ncounts[r],
+        first: rules.firsts[r],
+        count: rules.counts[r],
+        nfirst: rules.nfirsts[r],
+        ncount: rules.ncounts[r],
     };
-    same_nodes(ops, nums, nodes, a, b)
+    same_nodes(tables, a, b)
 }
 
 // The first rule before rule r that compiles and is like it.
-pub(crate) fn first_alike(
-    ops: &[u8],
-    nums: &[u64],
-    firsts: &[usize],
-    counts: &[usize],
-    nodes: &[u64],
-    nfirsts: &[usize],
-    ncounts: &[usize],
-    refusals: &[u64],
-    r: usize,
-) -> Alike
-    requires { KnownRule ops.now nums.now firsts.now counts.now nodes.now nfirsts.now ncounts.now refusals.now r }
-    ensures { Earlier ops.now nums.now firsts.now counts.now nodes.now
-        nfirsts.now ncounts.now refusals.now r result }
+pub(crate) fn first_alike(tables: &Tables, rules: &RuleList, r: usize) -> Option<u64>
+    requires { KnownRule tables.now.formulas.ops.now tables.now.formulas.nums.now rules.now.firsts.now rules.now.counts.now tables.now.nodes.now rules.now.nfirsts.now rules.now.ncounts.now rules.now.refusals.now r }
+    ensures { Earlier tables.now.formulas.ops.now tables.now.formulas.nums.now rules.now.firsts.now rules.now.counts.now tables.now.nodes.now
+        rules.now.nfirsts.now rules.now.ncounts.now rules.now.refusals.now r result }
 {
-    let mut q: usize = 0;
-    while q < r {
-        if is_like(
-            ops, nums, firsts, counts, nodes, nfirsts, ncounts, refusals, q, r,
-        ) {
-            return Alike::To(q as u64);
+    for q in 0..r {
+        if is_like(tables, rules, q, r) {
+            return Some(q as u64);
         }
-        q += 1;
     }
-    Alike::Nothing
+    None
 }

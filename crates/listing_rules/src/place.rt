@@ -2,44 +2,36 @@
 ghost use Rattle.listing_rules.specs.Answers.{Placeable, Places, Encodable, Encodes};
 
 use encoding::{ConfigEncoding, encoding_of, monitor_bits};
-use plan::layout::arrange;
+use plan::layout::{RuleList, arrange};
 
 // Lays out the first n rules, from bit `base`.
 pub fn place_rules(
-    kinds: &[u8],
-    refusals: &[u64],
+    rules: &RuleList,
     nodes: &[u64],
-    nfirsts: &[usize],
-    ncounts: &[usize],
     n: usize,
     base: u64,
     starts: &mut [u64],
     bits: &mut [u64],
 )
-    requires { Placeable kinds.now nodes.now nfirsts.now ncounts.now refusals.now n base starts.old bits.old }
-    ensures { Places kinds.now nodes.now nfirsts.now ncounts.now refusals.now n base
+    requires { Placeable rules.now.kinds.now nodes.now rules.now.nfirsts.now rules.now.ncounts.now rules.now.refusals.now n base starts.old bits.old }
+    ensures { Places rules.now.kinds.now nodes.now rules.now.nfirsts.now rules.now.ncounts.now rules.now.refusals.now n base
         starts.new bits.new }
 {
-    arrange(
-        kinds, refusals, nodes, nfirsts, ncounts, n, base, starts, bits,
-    );
+    arrange(rules, nodes, n, base, starts, bits);
 }
 
 // The numbers of a configuration with the first n rules, from the bits of the state and of the slots.
 pub fn encode_rules(
-    kinds: &[u8],
-    refusals: &[u64],
+    rules: &RuleList,
     nodes: &[u64],
-    nfirsts: &[usize],
-    ncounts: &[usize],
     n: usize,
     state: u64,
     vars: u64,
 ) -> ConfigEncoding
-    requires { Encodable kinds.now nodes.now nfirsts.now ncounts.now refusals.now n state vars }
-    ensures { Encodes kinds.now nodes.now nfirsts.now ncounts.now refusals.now n
+    requires { Encodable rules.now.kinds.now nodes.now rules.now.nfirsts.now rules.now.ncounts.now rules.now.refusals.now n state vars }
+    ensures { Encodes rules.now.kinds.now nodes.now rules.now.nfirsts.now rules.now.ncounts.now rules.now.refusals.now n
         state vars result }
 {
-    let monitors = monitor_bits(kinds, refusals, nodes, nfirsts, ncounts, n);
+    let monitors = monitor_bits(rules, nodes, n);
     encoding_of(state, vars, monitors)
 }

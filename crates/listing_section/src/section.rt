@@ -3,11 +3,14 @@ ghost use Rattle.std.specs.Prelude.{◌≡◌, not, eqb};
 ghost use Rattle.text.specs.Tape.{tape};
 ghost use Rattle.listing_section.specs.Section.{Split, SplitWrote, Owing, OwingWrote, Readied, NodesPut, RulePut};
 
-use listing_line::rule::{Compiling, put_rule};
+use formula::table::FormulaTable;
+use listing_line::rule::{Compiled, put_rule};
 use listing_live::live::put_live;
 use listing_live::owe::put_owes;
 use listing_nodes::put_nodes;
-use split::parts::{Liveness, split};
+use monitor::table::{Part, Tables};
+use result::Refusal;
+use split::parts::{Parts, split};
 use terms::kind::PROPERTY;
 use terms::limit::{OWED_ROOM, SKELETON_ROOM};
 
@@ -15,30 +18,20 @@ use terms::limit::{OWED_ROOM, SKELETON_ROOM};
 fn put_owing(
     out: &mut [u8],
     at: usize,
-    ops: &[u8],
-    nums: &[u64],
+    table: &FormulaTable,
     first: usize,
     count: usize,
     assumed: bool,
-    answer: Liveness,
+    answer: Result<Option<Parts>, Refusal>,
     owed: &[u64],
 ) -> usize
-    requires { Owing ops.now nums.now first count assumed answer owed.now }
-    ensures { OwingWrote ops.now nums.now first count assumed (tape out.old at) (tape out.new result) }
+    requires { Owing table.now.ops.now table.now.nums.now first count assumed answer owed.now }
+    ensures { OwingWrote table.now.ops.now table.now.nums.now first count assumed (tape out.old at) (tape out.new result) }
 {
     match answer {
-        Liveness::None => {
-            return at;
-        }
-        Liveness::Refused(_) => {
-            return at;
-        }
-        Liveness::Parts {
-            skeleton: _,
-            owed: n,
-        } => {
-            return put_owes(out, at, ops, nums, owed, n);
-        }
+        Ok(Some(parts)) => put_owes(out, at, table, owed, parts.owed),
+        Ok(None) => at,
+        Err(_) => at,
     }
 }
 
@@ -46,52 +39,38 @@ fn put_owing(
 pub(crate) fn put_split(
     out: &mut [u8],
     at: usize,
-    ops: &[u8],
-    nums: &[u64],
+    table: &FormulaTable,
     first: usize,
     count: usize,
     assumed: bool,
 ) -> usize
-    requires { Split ops.now nums.now first count }
-    ensures { SplitWrote ops.now nums.now first count assumed (tape out.old at) (tape out.new result) }
+    requires { Split table.now.ops.now table.now.nums.now first count }
+    ensures { SplitWrote table.now.ops.now table.now.nums.now first count assumed (tape out.old at) (tape out.new result) }
 {
     let mut skeleton: [u64; SKELETON_ROOM] = [0; SKELETON_ROOM];
     let mut owed: [u64; OWED_ROOM] = [0; OWED_ROOM];
-    let answer = split(ops, nums, first, count, assumed, &mut skeleton, &mut owed);
-    let place = put_live(out, at, ops, nums, answer, &skeleton);
-    put_owing(out, place, ops, nums, first, count, assumed, answer, &owed)
+    let answer = split(table, first, count, assumed, &mut skeleton, &mut owed);
+    let place = put_live(out, at, table, answer, &skeleton);
+    put_owing(out, place, table, first, count, assumed, answer, &owed)
 }
 
 // The `node` lines, where the rule compiles.
 fn put_compiled(
     out: &mut [u8],
     at: usize,
-    ops: &[u8],
-    nums: &[u64],
-    nodes: &[u64],
+    tables: &Tables,
     label: &[u8],
     kind: u8,
-    first: usize,
-    count: usize,
-    nfirst: usize,
-    ncount: usize,
-    c: Compiling,
+    part: Part,
+    c: Result<Compiled, u64>,
 ) -> usize
-    requires { Readied ops.now nums.now nodes.now label.now kind first count nfirst ncount c }
-    ensures { NodesPut ops.now nums.now nodes.now label.now kind first count nfirst ncount c
+    requires { Readied tables.now.formulas.ops.now tables.now.formulas.nums.now tables.now.nodes.now label.now kind part.first part.count part.nfirst part.ncount c }
+    ensures { NodesPut tables.now.formulas.ops.now tables.now.formulas.nums.now tables.now.nodes.now label.now kind part.first part.count part.nfirst part.ncount c
         (tape out.old at) (tape out.new result) }
 {
     match c {
-        Compiling::Compiled {
-            first: _,
-            bits: _,
-            alike: _,
-        } => {
-            return put_nodes(out, at, ops, nums, nodes, nfirst, ncount);
-        }
-        Compiling::Refused(_) => {
-            return at;
-        }
+        Ok(_) => put_nodes(out, at, tables, part),
+        Err(_) => at,
     }
 }
 
@@ -99,36 +78,26 @@ fn put_compiled(
 fn is_assumption(kind: u8) -> bool
     ensures { result ≡ not (eqb kind 0) }
 {
-    if kind == PROPERTY {
-        return false;
-    }
-    true
+    kind != PROPERTY
 }
 
 // All lines of a rule.
 pub fn put_section(
     out: &mut [u8],
     at: usize,
-    ops: &[u8],
-    nums: &[u64],
-    nodes: &[u64],
+    tables: &Tables,
     label: &[u8],
     number: u64,
     kind: u8,
-    first: usize,
-    count: usize,
-    nfirst: usize,
-    ncount: usize,
-    c: Compiling,
+    part: Part,
+    c: Result<Compiled, u64>,
 ) -> usize
-    requires { Readied ops.now nums.now nodes.now label.now kind first count nfirst ncount c }
-    ensures { RulePut ops.now nums.now nodes.now label.now number kind first count nfirst ncount c
+    requires { Readied tables.now.formulas.ops.now tables.now.formulas.nums.now tables.now.nodes.now label.now kind part.first part.count part.nfirst part.ncount c }
+    ensures { RulePut tables.now.formulas.ops.now tables.now.formulas.nums.now tables.now.nodes.now label.now number kind part.first part.count part.nfirst part.ncount c
         (tape out.old at) (tape out.new result) }
 {
     let a = put_rule(out, at, number, label, kind, c);
-    let b = put_compiled(
-        out, a, ops, nums, nodes, label, kind, first, count, nfirst, ncount, c,
-    );
+    let b = put_compiled(out, a, tables, label, kind, part, c);
     let assumed = is_assumption(kind);
-    put_split(out, b, ops, nums, first, count, assumed)
+    put_split(out, b, &tables.formulas, part.first, part.count, assumed)
 }

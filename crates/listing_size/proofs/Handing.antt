@@ -9,11 +9,12 @@ use lib.Seq.{take-append_seam}
 use Rattle.terms.specs.Limits.{slot_most, state_counts}
 use Rattle.encoding.specs.Encoding.{slot_bits, Widths, StateSum, SlotSum}
 use Rattle.book.specs.Book.{Book, count_in, accepted, read}
-use Rattle.book.specs.declared.state.States.{States}
+use Rattle.std.specs.Prelude.{Option, Result, Ok, Err}
+use Rattle.result.specs.Refusal.{number_of}
+use Rattle.book.specs.declared.check.Refused.{Refused}
 use Rattle.reader.specs.BookTables.{BookTables, SlotTables, over, written, slots_written, read_into}
 use Rattle.reader.specs.Answer.{Roomy, RoomySlots, Reads}
-use Rattle.reader.specs.declared.read.Answer.{Answer}
-use Rattle.reader.specs.declared.read.Answer.TheVariants.{Read, Refused}
+use Rattle.reader.specs.declared.read.Read.{Read}
 use Rattle.reader.proofs.Answers.{ReadBack, into_roomy, read_inv, refused_inv}
 use Rattle.reader.proofs.Columns.{over_long}
 use Rattle.reader.proofs.Runs.{roomy_is, roomy_slots_is}
@@ -83,38 +84,38 @@ module _ (text : List ℕ) (t : BookTables) (u : SlotTables) (b : Book) (e : rea
 
 -- t and u the tables before, t' and u' after
 module _ (text : List ℕ) (t : BookTables) (u : SlotTables) (t' : BookTables) (u' : SlotTables) where
-  module _ (rules nodes steps-at slots : ℕ) (states : States) (p : Reads text t u (Read rules nodes steps-at slots states) t' u') where
-    back : ReadBack text t u t' u' rules nodes steps-at slots states
-    back = read_inv text t u t' u' rules nodes steps-at slots states p
+  module _ (a : Read) (p : Reads text t u (Ok a) t' u') where
+    back : ReadBack text t u t' u' a
+    back = read_inv text t u t' u' a p
 
-    count_low : count_in states < state_counts
-    count_low = subst (λ (c : States). count_in c < state_counts) (sym back.counted.states) (book_opening text back.book (reads text t u back.book back.is)).count
+    count_low : count_in a.states < state_counts
+    count_low = subst (λ (c : Option ℕ). count_in c < state_counts) (sym back.counted.states) (book_opening text back.book (reads text t u back.book back.is)).count
 
-    widths_handed : Widths u'.widths slots
+    widths_handed : Widths u'.widths a.slots
     widths_handed =
-        subst (λ (x : SlotTables). Widths x.widths slots) (sym back.slots)
+        subst (λ (x : SlotTables). Widths x.widths a.slots) (sym back.slots)
         (subst (Widths (slots_written back.book u).widths) (sym back.counted.slots) (widths_held text t u back.book back.is))
 
-    with_bits : (state vars : ℕ) → length t.ops ≡ 1024 → length t.nums ≡ 1024 → StateSum (count_in states) state → SlotSum (take slots u'.widths) slots vars
-        → Handed text t' rules steps-at state vars
+    with_bits : (state vars : ℕ) → length t.ops ≡ 1024 → length t.nums ≡ 1024 → StateSum (count_in a.states) state → SlotSum (take a.slots u'.widths) a.slots vars
+        → Handed text t' a.rules a.steps_at state vars
     with_bits state vars o m q r =
         let b : Book = back.book in
-        let q' : StateSum (count_in b.states) state = subst (λ (c : States). StateSum (count_in c) state) back.counted.states q in
-        let r₁ : SlotSum (take slots (slots_written b u).widths) slots vars = subst (λ (x : SlotTables). SlotSum (take slots x.widths) slots vars) back.slots r in
+        let q' : StateSum (count_in b.states) state = subst (λ (c : Option ℕ). StateSum (count_in c) state) back.counted.states q in
+        let r₁ : SlotSum (take a.slots (slots_written b u).widths) a.slots vars = subst (λ (x : SlotTables). SlotSum (take a.slots x.widths) a.slots vars) back.slots r in
         let r' : SlotSum (take (length b.names) (slots_written b u).widths) (length b.names) vars =
         subst (λ (k : ℕ). SlotSum (take k (slots_written b u).widths) k vars) back.counted.slots r₁ in
-        subst (λ (x : BookTables). Handed text x rules steps-at state vars) (sym back.tables)
-        (subst (λ (k : ℕ). Handed text (written b t) k steps-at state vars) (sym back.counted.rules)
+        subst (λ (x : BookTables). Handed text x a.rules a.steps_at state vars) (sym back.tables)
+        (subst (λ (k : ℕ). Handed text (written b t) k a.steps_at state vars) (sym back.counted.rules)
         (subst (λ (k : ℕ). Handed text (written b t) (length b.labels) k state vars) (sym back.counted.head) (written_handed text t u b back.is state vars o m q' r')))
 
-    handed : length t.ops ≡ 1024 → length t.nums ≡ 1024 → HandedOpening text t' u'.widths rules steps-at slots states
+    handed : length t.ops ≡ 1024 → length t.nums ≡ 1024 → HandedOpening text t' u'.widths a.rules a.steps_at a.slots a.states
     handed o m = record { low = count_low; wide = widths_handed; hands = λ state vars q r. with_bits state vars o m q r }
 
-  refused_listing : (n k : ℕ) → Roomy t → RoomySlots u → Reads text t u (Refused n k) t' u' → listing text ≡ refused_line n k
+  refused_listing : (e : Refused) → Roomy t → RoomySlots u → Reads text t u (Err e) t' u' → listing text ≡ refused_line (number_of e.refusal) e.line
   unfolding listing
-  refused_listing n k room slots p = ap listing_of (sym (into_roomy text t u room slots) ∙ (refused_inv text t u t' u' n k p).0)
+  refused_listing e room slots p = ap listing_of (sym (into_roomy text t u room slots) ∙ (refused_inv text t u t' u' e p).0)
 
-  pub answer_hands : (a : Answer) → Roomy t → RoomySlots u → length t.ops ≡ 1024 → length t.nums ≡ 1024 → Reads text t u a t' u'
+  pub answer_hands : (a : Result Read Refused) → Roomy t → RoomySlots u → length t.ops ≡ 1024 → length t.nums ≡ 1024 → Reads text t u a t' u'
       → AnswerHands text t' u'.widths a
-  answer_hands (Read rules nodes steps-at slots states) room wide o m p = handed rules nodes steps-at slots states p o m
-  answer_hands (Refused n k) room wide o m p = refused_listing n k room wide p
+  answer_hands (Ok a) room wide o m p = handed a p o m
+  answer_hands (Err e) room wide o m p = refused_listing e room wide p

@@ -7,6 +7,8 @@ use Prim.Native.Nat.{ℕ, ◌+◌, ◌-◌, ◌*◌, ◌≤◌}
 use native.Mathlib.Omega.{arith}
 use lib.ListN.{length, length-append}
 use Rattle.terms.specs.Choice.{pick}
+use Rattle.result.specs.Refusal.{number_of}
+use Rattle.result.specs.declared.Refusal.{Refusal}
 use Rattle.formula.specs.Tree.{leaf, one, two, size}
 use Rattle.formula.specs.Formula.{Formula, not, next, always, eventually, always_for, within, and, or, implies, until}
 use Rattle.formula.specs.Text.{atom}
@@ -27,10 +29,8 @@ use Rattle.spelling.specs.Spelling.{signal_text, operand_text}
 use Rattle.listing_line.specs.Line.{absent}
 use Rattle.listing_line.specs.Node.{node_word, end_text, check_fields, join_fields, line_of, node_lines}
 use Rattle.listing_line.specs.Rule.{rule_word, alike_text, rule_line}
-use Rattle.listing_line.specs.declared.rule.Alike.{Alike}
-use Rattle.listing_line.specs.declared.rule.Alike.TheVariants.{To, Nothing}
-use Rattle.listing_line.specs.declared.rule.Compiling.{Compiling}
-use Rattle.listing_line.specs.declared.rule.Compiling.TheVariants.{Compiled, Refused}
+use Rattle.std.specs.Prelude.{None, Option, Some, Result, Ok, Err}
+use Rattle.listing_line.specs.declared.rule.Compiled.{Compiled}
 use Rattle.listing_live.specs.Live.{mark_text, marks_text, live_word, none_word, owe_word, live_line, owe_line, owe_lines}
 use Rattle.listing_live.proofs.Entries.{marks_append}
 use Rattle.listing_rules.specs.Rules.{Rule, property, compiles, mon, compiling_of}
@@ -38,22 +38,22 @@ use Rattle.listing_head.specs.Head.{owes_of, nodes_text, live_text, owes_text, r
 use Rattle.listing_size.proofs.TextSizes.{decimal_short, line_long, joined_one, joined_more, joined_both, spell_short, signs_short, operand_short}
 
 -- ---- the `rule` line
-alike_short : (a : Alike) → length (alike_text a) ≤ 20
-alike_short (To n) = decimal_short n
-alike_short Nothing = omega arith
+alike_short : (a : Option ℕ) → length (alike_text a) ≤ 20
+alike_short (Some n) = decimal_short n
+alike_short None = omega arith
 
-rule_line_short : (k : ℕ) (label : List ℕ) (kind : ℕ) (c : Compiling) → length label ≤ 32 → length (rule_line k label kind c) ≤ 145
+rule_line_short : (k : ℕ) (label : List ℕ) (kind : ℕ) (c : Result Compiled ℕ) → length label ≤ 32 → length (rule_line k label kind c) ≤ 145
 unfolding rule_line
-rule_line_short k label kind (Compiled first bits alike) h = omega (
+rule_line_short k label kind (Ok c) h = omega (
   arith,
-  line_long rule_word (decimal k ∷ label ∷ (kind_byte kind ∷ []) ∷ decimal 0 ∷ decimal first ∷ decimal bits ∷ alike_text alike ∷ []),
+  line_long rule_word (decimal k ∷ label ∷ (kind_byte kind ∷ []) ∷ decimal 0 ∷ decimal c.first ∷ decimal c.bits ∷ alike_text c.alike ∷ []),
   decimal_short k,
   decimal_short 0,
-  decimal_short first,
-  decimal_short bits,
-  alike_short alike,
+  decimal_short c.first,
+  decimal_short c.bits,
+  alike_short c.alike,
 )
-rule_line_short k label kind (Refused n) h = omega (
+rule_line_short k label kind (Err n) h = omega (
   arith,
   line_long rule_word (decimal k ∷ label ∷ (kind_byte kind ∷ []) ∷ decimal n ∷ absent ∷ absent ∷ absent ∷ []),
   decimal_short k,
@@ -233,9 +233,9 @@ split_short : (t : Bool) (f : Formula) (i : ℕ) → split_long (split_of t f i)
 split_short true f i = none_short (size f)
 split_short false f i = by_live (live f)
   where
-    by_faults : (ns : List ℕ) → split_long (first_or ns (parts (skeleton_of f i 0) (obligations_of f i))) ≤ 37 + 37 * size f
+    by_faults : (ns : List Refusal) → split_long (first_or ns (parts (skeleton_of f i 0) (obligations_of f i))) ≤ 37 + 37 * size f
     by_faults [] = parts_short f i
-    by_faults (n ∷ ns) = refused_short n (size f)
+    by_faults (n ∷ ns) = refused_short (number_of n) (size f)
 
     by_live : (l : Bool) → split_long (split.property l f i) ≤ 37 + 37 * size f
     by_live false = none_short (size f)

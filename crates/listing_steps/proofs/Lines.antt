@@ -1,11 +1,9 @@
 -- All rules at a step line: the loop over them, and what it keeps.
 use mathlib.Core.Path.{◌≡◌, refl, sym, ap, ap₂, subst, ◌∙◌}
-use mathlib.Core.Bool.{Bool}
 use mathlib.Core.List.{List, [], ◌∷◌, ◌++◌, append_assoc}
 use Prim.Native.Nat.{ℕ, ◌+◌, ◌≤◌, ◌<◌}
 use native.Mathlib.Omega.{arith}
 use native.Mathlib.Numerals.{add-one}
-use lib.IntN.{ℤ}
 use lib.ListN.{length, get_or, length-append}
 use Rattle.meaning.specs.State.{State}
 use Rattle.node_step.specs.Memory.{Memory}
@@ -18,15 +16,6 @@ use Rattle.listing_reports.specs.Tail.{report_line, report_lines}
 use Rattle.listing_steps.specs.Holding.{Rows, HoldsState, Holding}
 use Rattle.listing_steps.specs.Stepped.{line_of, stepped, report_if, Due, OneStepped, LineDue, LineStepped}
 use Rattle.listing_steps.proofs.Turns.{step_below, step_from}
-
--- the lent lists keep their lengths
-pub record Long (held₀ : List Bool) (remaining₀ : List ℕ) (failed₀ : List Bool) (culprits₀ : List ℤ) (out₀ : List ℕ) (held : List Bool)
-    (remaining : List ℕ) (failed : List Bool) (culprits : List ℤ) (out : List ℕ) : Type 0 where
-  pub held_long : length held ≡ length held₀
-  pub remaining_long : length remaining ≡ length remaining₀
-  pub failed_long : length failed ≡ length failed₀
-  pub culprits_long : length culprits ≡ length culprits₀
-  pub out_long : length out ≡ length out₀
 
 pub lines_append : (a b : List Report) → report_lines (a ++ b) ≡ report_lines a ++ report_lines b
 unfolding report_lines

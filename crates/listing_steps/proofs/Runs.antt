@@ -11,8 +11,8 @@ use Rattle.listing_rules.specs.Rules.{Rule}
 use Rattle.book.specs.Book.{StepLine}
 use Rattle.result.specs.Result.{given}
 use Rattle.reader.specs.Steps.{next_step, result_of, steps_from}
-use Rattle.reader.specs.declared.steps.StepRead.{StepRead}
-use Rattle.reader.specs.declared.steps.StepRead.TheVariants.{Step, End}
+use Rattle.std.specs.Prelude.{Option as Opt, Some, None}
+use Rattle.reader.specs.declared.steps.StepLine as code
 use Rattle.listing_reports.specs.Reports.{States, next_states, Report, reports_at, reports, end_count}
 use Rattle.listing_reports.specs.Tail.{report_lines}
 use Rattle.listing_steps.specs.Holding.{Rows, Holding}
@@ -50,8 +50,8 @@ module _ (text : List ℕ) (from : ℕ) (ops nums nodes nfirsts refusals : List 
   }
 
   module _ (cursor : ℕ) (mem' : Memory) (b : Tape) (written : ℕ) (g : Ran text from ops nums nodes nfirsts refusals n mem a cursor mem' b written)
-      (read : StepRead) (h : result_of read ≡ given (next_step text cursor)) where
-    pub ran_end : read ≡ End → LinesStepped text from ops nums nodes nfirsts refusals n mem a mem' b written
+      (read : Opt code.StepLine) (h : result_of read ≡ given (next_step text cursor)) where
+    pub ran_end : read ≡ None → LinesStepped text from ops nums nodes nfirsts refusals n mem a mem' b written
     unfolding reports last_states end_count
     ran_end e = record {
       holding = λ R st u v.
@@ -72,35 +72,35 @@ module _ (text : List ℕ) (from : ℕ) (ops nums nodes nfirsts refusals : List 
             let p = g.part R st u v in
             p.all ∙ ap (λ (xs : List StepLine). p.past ++ reports R n p.states p.place xs) (none_left text cursor read h e) ∙ nil p.past
 
-    module _ (s w next : ℕ) (e : read ≡ Step s w next) where
-      pub ran_due : LinesDue text ops nums nodes nfirsts refusals n mem → LineDue ops nums nodes nfirsts refusals n mem' s
+    module _ (x : code.StepLine) (e : read ≡ Some x) where
+      pub ran_due : LinesDue text ops nums nodes nfirsts refusals n mem → LineDue ops nums nodes nfirsts refusals n mem' x.step
       ran_due d = record {
         rules = d.rules;
         states = (g.part d.rules d.states d.rows d.holding).states;
         rows = d.rows;
         holding = (g.part d.rules d.states d.rows d.holding).holding;
-        below = step_low text cursor read h s w next e;
+        below = step_low text cursor read h x e;
       }
 
       pub ran_next :
-          (mem'' : Memory) (c : Tape) (more : ℕ) → LineStepped ops nums nodes nfirsts refusals n mem' s w b mem'' c more
-          → Ran text from ops nums nodes nfirsts refusals n mem a next mem'' c (written + more)
+          (mem'' : Memory) (c : Tape) (more : ℕ) → LineStepped ops nums nodes nfirsts refusals n mem' x.step x.truths b mem'' c more
+          → Ran text from ops nums nodes nfirsts refusals n mem a x.next mem'' c (written + more)
       unfolding reports last_states
       ran_next mem'' c more l = record {
-        few = omega (arith, g.few, l.few, fewer text cursor read h s w next e);
+        few = omega (arith, g.few, l.few, fewer text cursor read h x e);
         part = λ R st u v.
             let p = g.part R st u v in
-            let x = line_of s w in
-            let now = reports_at R p.states p.place x n in
+            let now_at = line_of x.step x.truths in
+            let now = reports_at R p.states p.place now_at n in
             record {
-              states = next_states R p.states x;
+              states = next_states R p.states now_at;
               place = suc p.place;
               past = p.past ++ now;
               holding = l.holding R p.states u p.holding;
               all = p.all
-                  ∙ ap (λ (xs : List StepLine). p.past ++ reports R n p.states p.place xs) (one_more text cursor read h s w next e)
-                  ∙ sym (append_assoc p.past now (reports R n (next_states R p.states x) (suc p.place) (steps_from text next)));
-              last = p.last ∙ ap (last_states R p.states) (one_more text cursor read h s w next e);
+                  ∙ ap (λ (xs : List StepLine). p.past ++ reports R n p.states p.place xs) (one_more text cursor read h x e)
+                  ∙ sym (append_assoc p.past now (reports R n (next_states R p.states now_at) (suc p.place) (steps_from text x.next)));
+              last = p.last ∙ ap (last_states R p.states) (one_more text cursor read h x e);
               wrote = as_text a c (lines_append p.past now) (then p.wrote (l.wrote R p.states p.place u p.holding));
               counted = ap₂ ◌+◌ p.counted (l.counted R p.states p.place u p.holding) ∙ sym (length-append p.past now);
             };

@@ -12,8 +12,8 @@ use Rattle.line.proofs.Sane.{SaneLine, parse_sane}
 use Rattle.book.specs.Book.{StepLine}
 use Rattle.result.specs.Result.{given}
 use Rattle.reader.specs.Steps.{as_step, next_step, result_of, before, steps_of, steps_from}
-use Rattle.reader.specs.declared.steps.StepRead.{StepRead}
-use Rattle.reader.specs.declared.steps.StepRead.TheVariants.{Step}
+use Rattle.std.specs.Prelude.{Option as Opt, Some}
+use Rattle.reader.specs.declared.steps.StepLine as code
 use Rattle.reader.proofs.StepsOfBook.{one_more}
 
 -- ---- the steps of some lines
@@ -49,10 +49,10 @@ pub from_few : (text : List ℕ) (at : ℕ) → length (steps_from text at) ≤ 
 unfolding steps_from
 from_few text at = omega (arith, steps_few (lines (drop at text)), lines_few (drop at text), length-drop at text)
 
-module _ (text : List ℕ) (at : ℕ) (r : StepRead) (h : result_of r ≡ given (next_step text at)) (s w next : ℕ) (e : r ≡ Step s w next) where
-  pub step_low : s < 9223372036854775808
+module _ (text : List ℕ) (at : ℕ) (r : Opt code.StepLine) (h : result_of r ≡ given (next_step text at)) (x : code.StepLine) (e : r ≡ Some x) where
+  pub step_low : x.step < 9223372036854775808
   unfolding steps_from
-  step_low = subst Below (one_more text at r h s w next e) (steps_below (lines (drop at text)))
+  step_low = subst Below (one_more text at r h x e) (steps_below (lines (drop at text)))
 
-  pub fewer : length (steps_from text next) < length (steps_from text at)
-  fewer = omega (arith, ap length (one_more text at r h s w next e))
+  pub fewer : length (steps_from text x.next) < length (steps_from text at)
+  fewer = omega (arith, ap length (one_more text at r h x e))

@@ -14,7 +14,7 @@ use borrow.Author.Tests.{lt-ltb, le-ltb}
 use Rattle.terms.specs.Choice.{pick}
 use Rattle.formula.proofs.Cases.{below_or, true_false}
 use Rattle.monitor.specs.Mon.{Mon, count}
-use Rattle.meaning.specs.State.{State, step, newly_failed, culprit}
+use Rattle.meaning.specs.State.{State, step, newly_failed}
 use Rattle.node_step.specs.Memory.{Memory, get, Inside}
 use Rattle.lent.specs.Nodes.{NodesAt}
 use Rattle.stepping.specs.Walk.{read_mon, write_mon, Walkable}

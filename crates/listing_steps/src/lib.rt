@@ -4,79 +4,62 @@
 ghost use Rattle.stepping.specs.Walk.{Walkable};
 ghost use Rattle.text.specs.Tape.{tape};
 ghost use Rattle.listing_steps.specs.Stepped.{RuleStepped, Due, OneStepped, LineDue, LineStepped, LinesDue, LinesStepped, StepsDue, StepsReported};
-ghost use Rattle.node_step.specs.Memory.{entries};
+ghost use Rattle.node_step.specs.Lists.{memory_of, SameLists};
 
 use listing_report::put_report;
-use reader::steps::{StepRead, next_step};
+use monitor::table::Tables;
+use node_step::state::Memory;
+use plan::layout::RuleList;
+use reader::steps::next_step;
 use stepping::walk::step_node;
 use terms::limit::BOOK_ROWS;
 
 // The place behind the written lines, and their count.
-#[derive(Clone, Copy)]
+#[derive(Clone, Copy, Debug, PartialEq, Eq)]
 pub struct Reported {
     pub at: usize,
     pub count: u64,
 }
 
 // The monitor whose root is at entry k: whether it is newly failed at this step.
-fn step_rule(
-    ops: &[u8],
-    nums: &[u64],
-    nodes: &[u64],
-    held: &mut [bool],
-    remaining: &mut [u64],
-    failed: &mut [bool],
-    culprits: &mut [i64],
-    k: usize,
-    s: u64,
-    w: u64,
-) -> bool
-    requires { Walkable ops.now nums.now nodes.now 0 (entries held.old remaining.old failed.old culprits.old) k s }
-    ensures { RuleStepped ops.now nums.now nodes.now
-        (entries held.old remaining.old failed.old culprits.old) k s w
-        (entries held.new remaining.new failed.new culprits.new) result }
+fn step_rule(tables: &Tables, memory: &mut Memory, k: usize, s: u64, w: u64) -> bool
+    requires { Walkable tables.now.formulas.ops.now tables.now.formulas.nums.now tables.now.nodes.now 0 (memory_of memory.old) k s }
+    ensures stepped { RuleStepped tables.now.formulas.ops.now tables.now.formulas.nums.now tables.now.nodes.now
+        (memory_of memory.old) k s w
+        (memory_of memory.new) result }
+    ensures same { SameLists memory.old memory.new }
 {
-    let before = failed[k];
-    step_node(
-        ops, nums, nodes, 0, held, remaining, failed, culprits, k, s, w,
-    );
-    if before {
-        return false;
-    }
-    failed[k]
+    let before = memory.failed[k];
+    step_node(tables, 0, memory, k, s, w);
+    !before && memory.failed[k]
 }
 
 // Rule r at a step line: a rule that does not compile is left out.
 fn report_rule(
-    ops: &[u8],
-    nums: &[u64],
-    nodes: &[u64],
-    nfirsts: &[usize],
-    refusals: &[u64],
+    tables: &Tables,
+    rules: &RuleList,
     n: usize,
     r: usize,
-    held: &mut [bool],
-    remaining: &mut [u64],
-    failed: &mut [bool],
-    culprits: &mut [i64],
+    memory: &mut Memory,
     s: u64,
     w: u64,
     out: &mut [u8],
     at: usize,
 ) -> Reported
-    requires { Due ops.now nums.now nodes.now nfirsts.now refusals.now n r (entries held.old remaining.old failed.old culprits.old) s w }
-    ensures { OneStepped ops.now nums.now nodes.now nfirsts.now refusals.now n r
-        (entries held.old remaining.old failed.old culprits.old) s w (tape out.old at)
-        (entries held.new remaining.new failed.new culprits.new) (tape out.new result.at)
+    requires { Due tables.now.formulas.ops.now tables.now.formulas.nums.now tables.now.nodes.now rules.now.nfirsts.now rules.now.refusals.now n r (memory_of memory.old) s w }
+    ensures stepped { OneStepped tables.now.formulas.ops.now tables.now.formulas.nums.now tables.now.nodes.now rules.now.nfirsts.now rules.now.refusals.now n r
+        (memory_of memory.old) s w (tape out.old at)
+        (memory_of memory.new) (tape out.new result.at)
         result.count }
+    ensures same { SameLists memory.old memory.new }
 {
-    if refusals[r] != 0 {
+    if rules.refusals[r] != 0 {
         return Reported { at, count: 0 };
     }
-    let k = nfirsts[r];
-    let broken = step_rule(ops, nums, nodes, held, remaining, failed, culprits, k, s, w);
+    let k = rules.nfirsts[r];
+    let broken = step_rule(tables, memory, k, s, w);
     if broken {
-        let culprit = culprits[k];
+        let culprit = memory.culprits[k];
         let place = put_report(out, at, s, r as u64, culprit);
         return Reported {
             at: place,
@@ -88,38 +71,28 @@ fn report_rule(
 
 // The first n rules at a step line, in their order.
 pub(crate) fn step_rules(
-    ops: &[u8],
-    nums: &[u64],
-    nodes: &[u64],
-    nfirsts: &[usize],
-    refusals: &[u64],
+    tables: &Tables,
+    rules: &RuleList,
     n: usize,
-    held: &mut [bool],
-    remaining: &mut [u64],
-    failed: &mut [bool],
-    culprits: &mut [i64],
+    memory: &mut Memory,
     s: u64,
     w: u64,
     out: &mut [u8],
     at: usize,
 ) -> Reported
-    requires { LineDue ops.now nums.now nodes.now nfirsts.now refusals.now n (entries held.old remaining.old failed.old culprits.old) s }
-    ensures { LineStepped ops.now nums.now nodes.now nfirsts.now refusals.now n
-        (entries held.old remaining.old failed.old culprits.old) s w (tape out.old at)
-        (entries held.new remaining.new failed.new culprits.new) (tape out.new result.at)
+    requires { LineDue tables.now.formulas.ops.now tables.now.formulas.nums.now tables.now.nodes.now rules.now.nfirsts.now rules.now.refusals.now n (memory_of memory.old) s }
+    ensures stepped { LineStepped tables.now.formulas.ops.now tables.now.formulas.nums.now tables.now.nodes.now rules.now.nfirsts.now rules.now.refusals.now n
+        (memory_of memory.old) s w (tape out.old at)
+        (memory_of memory.new) (tape out.new result.at)
         result.count }
+    ensures same { SameLists memory.old memory.new }
 {
     let mut place = at;
     let mut count: u64 = 0;
-    let mut r: usize = 0;
-    while r < n {
-        let p = report_rule(
-            ops, nums, nodes, nfirsts, refusals, n, r, held, remaining, failed, culprits, s, w,
-            out, place,
-        );
+    for r in 0..n {
+        let p = report_rule(tables, rules, n, r, memory, s, w, out, place);
         place = p.at;
         count += p.count;
-        r += 1;
     }
     Reported { at: place, count }
 }
@@ -128,43 +101,32 @@ pub(crate) fn step_rules(
 pub(crate) fn put_reports(
     text: &[u8],
     from: usize,
-    ops: &[u8],
-    nums: &[u64],
-    nodes: &[u64],
-    nfirsts: &[usize],
-    refusals: &[u64],
+    tables: &Tables,
+    rules: &RuleList,
     n: usize,
-    held: &mut [bool],
-    remaining: &mut [u64],
-    failed: &mut [bool],
-    culprits: &mut [i64],
+    memory: &mut Memory,
     out: &mut [u8],
     at: usize,
 ) -> Reported
-    requires { LinesDue text.now ops.now nums.now nodes.now nfirsts.now refusals.now n (entries held.old remaining.old failed.old culprits.old) }
-    ensures { LinesStepped text.now from ops.now nums.now nodes.now nfirsts.now
-        refusals.now n (entries held.old remaining.old failed.old culprits.old)
-        (tape out.old at) (entries held.new remaining.new failed.new culprits.new)
+    requires { LinesDue text.now tables.now.formulas.ops.now tables.now.formulas.nums.now tables.now.nodes.now rules.now.nfirsts.now rules.now.refusals.now n (memory_of memory.old) }
+    ensures stepped { LinesStepped text.now from tables.now.formulas.ops.now tables.now.formulas.nums.now tables.now.nodes.now rules.now.nfirsts.now
+        rules.now.refusals.now n (memory_of memory.old)
+        (tape out.old at) (memory_of memory.new)
         (tape out.new result.at) result.count }
+    ensures same { SameLists memory.old memory.new }
 {
     let mut place = at;
     let mut total: u64 = 0;
     let mut cursor = from;
-    loop {
-        let read = next_step(text, cursor);
-        let StepRead::Step { step, truths, next } = read else {
-            return Reported {
-                at: place,
-                count: total,
-            };
-        };
-        let p = step_rules(
-            ops, nums, nodes, nfirsts, refusals, n, held, remaining, failed, culprits, step,
-            truths, out, place,
-        );
+    while let Some(line) = next_step(text, cursor) {
+        let p = step_rules(tables, rules, n, memory, line.step, line.truths, out, place);
         place = p.at;
         total += p.count;
-        cursor = next;
+        cursor = line.next;
+    }
+    Reported {
+        at: place,
+        count: total,
     }
 }
 
@@ -172,37 +134,25 @@ pub(crate) fn put_reports(
 pub fn report_steps(
     text: &[u8],
     from: usize,
-    ops: &[u8],
-    nums: &[u64],
-    nodes: &[u64],
-    nfirsts: &[usize],
-    refusals: &[u64],
+    tables: &Tables,
+    rules: &RuleList,
     n: usize,
     out: &mut [u8],
     at: usize,
 ) -> Reported
-    requires { StepsDue text.now ops.now nums.now nodes.now nfirsts.now refusals.now n }
-    ensures { StepsReported text.now from ops.now nums.now nodes.now nfirsts.now
-        refusals.now n (tape out.old at) (tape out.new result.at) result.count }
+    requires { StepsDue text.now tables.now.formulas.ops.now tables.now.formulas.nums.now tables.now.nodes.now rules.now.nfirsts.now rules.now.refusals.now n }
+    ensures { StepsReported text.now from tables.now.formulas.ops.now tables.now.formulas.nums.now tables.now.nodes.now rules.now.nfirsts.now
+        rules.now.refusals.now n (tape out.old at) (tape out.new result.at) result.count }
 {
     let mut held = [false; BOOK_ROWS];
     let mut remaining = [0u64; BOOK_ROWS];
     let mut failed = [false; BOOK_ROWS];
     let mut culprits = [-1i64; BOOK_ROWS];
-    put_reports(
-        text,
-        from,
-        ops,
-        nums,
-        nodes,
-        nfirsts,
-        refusals,
-        n,
-        &mut held,
-        &mut remaining,
-        &mut failed,
-        &mut culprits,
-        out,
-        at,
-    )
+    let mut memory = Memory {
+        held: &mut held,
+        remaining: &mut remaining,
+        failed: &mut failed,
+        culprits: &mut culprits,
+    };
+    put_reports(text, from, tables, rules, n, &mut memory, out, at)
 }

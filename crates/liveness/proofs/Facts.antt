@@ -10,6 +10,7 @@ use Prim.Native.Nat.{ℕ, zero, suc, ◌+◌}
 use native.Mathlib.Omega.{arith}
 use native.Mathlib.Nat.{add-zero, zero-add, suc-add}
 use lib.ListN.{length, length-append}
+use Rattle.result.specs.declared.Refusal.{Refusal}
 use Rattle.formula.specs.Tree.{leaf, one, two, size}
 use Rattle.formula.specs.Formula.{Formula, not, next, always, eventually, always_for, within, and, or, implies, until}
 use Rattle.liveness.specs.Split.{live, faults, Obligation, Skeleton, safety, owed, Not, And, Or, Implies, skeleton_of, obligations_of, owes, none, parts, first_or, property, split_of}
@@ -17,7 +18,7 @@ use Rattle.formula.proofs.Faults.{append_nil_inv}
 use Rattle.liveness.proofs.Words.{temporal_some}
 
 -- ---- when there is no split to ask for
-some_answer : (xs : List ℕ) (s : Skeleton) (os : List Obligation) {B : Type 0} → first_or xs (parts s os) ≡ none → B
+some_answer : (xs : List Refusal) (s : Skeleton) (os : List Obligation) {B : Type 0} → first_or xs (parts s os) ≡ none → B
 some_answer [] s os e = let z : ◌≡◌ {A = ℕ} 0 1 = cc in absurd (omega arith)
 some_answer (x ∷ xs) s os e = let z : ◌≡◌ {A = ℕ} 0 1 = cc in absurd (omega arith)
 

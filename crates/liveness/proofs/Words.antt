@@ -101,7 +101,7 @@ sound_eventually eventually f g h = refl
 sound_eventually (always_for b) f g h = temporal_some (live f) h
 sound_eventually (within b) f g h = temporal_some (live f) h
 
-pub both_nil : (a b : Bool) (n : ℕ) → unless_both a b n ≡ [] → (a ≡ true) × (b ≡ true)
+pub both_nil : {A : Type 0} (a b : Bool) (n : A) → unless_both a b n ≡ [] → (a ≡ true) × (b ≡ true)
 both_nil true b n h = (refl, unless_nil b n h)
 both_nil false b n h = cons_nil h
 

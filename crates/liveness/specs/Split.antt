@@ -5,6 +5,9 @@
 --     obligations_of  its `eventually` and `until`, left to right
 --     split_of        the answer for a rule
 use Rattle.std.specs.Prelude.{Bool, true, false, ◌||◌, List, [], ◌∷◌, ◌++◌, ℕ, ◌+◌, length}
+use Rattle.result.specs.Refusal.{number_of}
+use Rattle.result.specs.declared.Refusal.{Refusal}
+use Rattle.result.specs.declared.Refusal.TheVariants.{EventuallyOperand, UntilOperand, LivenessBelow, NoLivenessBelow}
 use Rattle.formula.specs.Tree.{leaf, one, two, size}
 use Rattle.formula.specs.Formula.{Atom, Formula, not, next, always, eventually, always_for, within, and, or, implies, until}
 use Rattle.formula.specs.Pure.{pure, unless}
@@ -23,27 +26,27 @@ live (two implies l r) = live l || live r
 live (two until l r) = true
 
 -- two tests that both have to hold
-abbrev pub unless_both : Bool → Bool → ℕ → List ℕ
+abbrev pub unless_both : {A : Type 0} → Bool → Bool → A → List A
 unless_both true t n = unless t n
 unless_both false t n = n ∷ []
 
 -- another temporal operator, by whether liveness stands below it
-abbrev pub temporal : Bool → List ℕ
-temporal true = 22 ∷ []
-temporal false = 23 ∷ []
+abbrev pub temporal : Bool → List Refusal
+temporal true = LivenessBelow ∷ []
+temporal false = NoLivenessBelow ∷ []
 
-unfoldable pub faults : Formula → List ℕ
+unfoldable pub faults : Formula → List Refusal
 faults (leaf a) = []
 faults (one not f) = faults f
 faults (one next f) = temporal (live f)
 faults (one always f) = temporal (live f)
-faults (one eventually f) = unless (pure f) 20
+faults (one eventually f) = unless (pure f) EventuallyOperand
 faults (one (always_for b) f) = temporal (live f)
 faults (one (within b) f) = temporal (live f)
 faults (two and l r) = faults l ++ faults r
 faults (two or l r) = faults l ++ faults r
 faults (two implies l r) = faults l ++ faults r
-faults (two until l r) = unless_both (pure l) (pure r) 21
+faults (two until l r) = unless_both (pure l) (pure r) UntilOperand
 
 -- an obligation: `eventually` with its operand, `until` with its two, each with its place in the formula table
 pub data Obligation : Type 0 where
@@ -98,9 +101,9 @@ pub data Answer : Type 0 where
   refused : ℕ → Answer
 
 -- the first fault, or else the split
-abbrev pub first_or : List ℕ → Answer → Answer
+abbrev pub first_or : List Refusal → Answer → Answer
 first_or [] a = a
-first_or (n ∷ ns) a = refused n
+first_or (n ∷ ns) a = refused (number_of n)
 
 -- a property, by whether it has liveness
 abbrev pub property : Bool → Formula → ℕ → Answer

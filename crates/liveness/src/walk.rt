@@ -2,96 +2,77 @@
 ghost use Rattle.formula.specs.Table.{Placed};
 ghost use Rattle.liveness.specs.Judge.{Calm, Lives, Judged, Operand};
 
-use formula::table::Walk;
+use formula::table::FormulaTable;
+use result::Refusal;
 use terms::op::{AND, EVENTUALLY, NEXT, NOT, UNTIL};
 
 // Where the formula at i ends, if it has no `eventually` or `until`.
-fn calm_at(ops: &[u8], nums: &[u64], i: usize) -> Walk
-    requires { Placed ops.now nums.now i }
-    ensures { Calm ops.now nums.now i result }
+fn calm_at(table: &FormulaTable, i: usize) -> Option<usize>
+    requires { Placed table.now.ops.now table.now.nums.now i }
+    ensures { Calm table.now.ops.now table.now.nums.now i result }
 {
-    let word = ops[i];
+    let word = table.ops[i];
     if word < NOT {
-        return Walk::Upto(i + 1);
+        return Some(i + 1);
     }
     if word == EVENTUALLY {
-        return Walk::Stuck;
+        return None;
     }
     if UNTIL <= word {
-        return Walk::Stuck;
+        return None;
     }
-    let first = calm_at(ops, nums, i + 1);
+    let first = calm_at(table, i + 1);
     if word < AND {
         return first;
     }
-    let Walk::Upto(e) = first else {
-        return first;
-    };
-    calm_at(ops, nums, e)
+    let e = first?;
+    calm_at(table, e)
 }
 
 // Whether the formula at i has `eventually` or `until`.
-pub fn contains_liveness(ops: &[u8], nums: &[u64], i: usize) -> bool
-    requires { Placed ops.now nums.now i }
-    ensures { Lives ops.now nums.now i result }
+pub fn contains_liveness(table: &FormulaTable, i: usize) -> bool
+    requires { Placed table.now.ops.now table.now.nums.now i }
+    ensures { Lives table.now.ops.now table.now.nums.now i result }
 {
-    let walk = calm_at(ops, nums, i);
-    let Walk::Upto(_) = walk else {
-        return true;
-    };
-    false
-}
-
-// Where the formula at i ends, if nothing in it refuses the split; else the first refusal of the walk.
-#[derive(Clone, Copy)]
-pub enum Top {
-    Upto(usize),
-    Fault(u64),
+    calm_at(table, i).is_none()
 }
 
 // The operand at i of `eventually` or `until`: where it ends, if it is pure; else the refusal.
-fn operand_at(ops: &[u8], nums: &[u64], i: usize, refusal: u64) -> Top
-    requires { Placed ops.now nums.now i }
-    ensures { Operand ops.now nums.now i refusal result }
+fn operand_at(table: &FormulaTable, i: usize, refusal: Refusal) -> Result<usize, Refusal>
+    requires { Placed table.now.ops.now table.now.nums.now i }
+    ensures { Operand table.now.ops.now table.now.nums.now i refusal result }
 {
-    let walk = formula::signal::boolean_over_atoms(ops, nums, i);
-    let Walk::Upto(e) = walk else {
-        return Top::Fault(refusal);
-    };
-    Top::Upto(e)
+    table.boolean_over_atoms(i).ok_or(refusal)
 }
 
-// The first refusal of the walk over the formula at i, parents first and left before right.
-pub fn judge_top(ops: &[u8], nums: &[u64], i: usize) -> Top
-    requires { Placed ops.now nums.now i }
-    ensures { Judged ops.now nums.now i result }
+// Where the formula at i ends, if nothing in it refuses the split; else the first refusal of the walk over it, parents first and left before right.
+pub fn judge_top(table: &FormulaTable, i: usize) -> Result<usize, Refusal>
+    requires { Placed table.now.ops.now table.now.nums.now i }
+    ensures { Judged table.now.ops.now table.now.nums.now i result }
 {
-    let op = ops[i];
+    let op = table.ops[i];
     if op < NOT {
-        return Top::Upto(i + 1);
+        return Ok(i + 1);
     }
     if op < NEXT {
-        return judge_top(ops, nums, i + 1);
+        return judge_top(table, i + 1);
     }
     if op == EVENTUALLY {
-        return operand_at(ops, nums, i + 1, 20);
+        return operand_at(table, i + 1, Refusal::EventuallyOperand);
     }
     if op < AND {
-        if contains_liveness(ops, nums, i + 1) {
-            return Top::Fault(22);
+        if contains_liveness(table, i + 1) {
+            return Err(Refusal::LivenessBelow);
         }
-        return Top::Fault(23);
+        return Err(Refusal::NoLivenessBelow);
     }
     if op < UNTIL {
-        let left = judge_top(ops, nums, i + 1);
-        let Top::Upto(e) = left else {
+        let left = judge_top(table, i + 1);
+        let Ok(e) = left else {
             return left;
         };
-        return judge_top(ops, nums, e);
+        return judge_top(table, e);
     }
-    let first = operand_at(ops, nums, i + 1, 21);
-    let Top::Upto(m) = first else {
-        return first;
-    };
-    operand_at(ops, nums, m, 21)
+    let m = operand_at(table, i + 1, Refusal::UntilOperand)?;
+    operand_at(table, m, Refusal::UntilOperand)
 }

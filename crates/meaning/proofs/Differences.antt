@@ -11,6 +11,7 @@ use lib.Dec.{leb}
 use lib.IntN.{ℤ, pos}
 use borrow.Author.Tests.{leb-true}
 use lib.ListN.{get_or}
+use Rattle.result.specs.declared.Refusal.TheVariants.{ZeroFor}
 use Rattle.formula.specs.Tree.{leaf, one, two, size}
 use Rattle.formula.specs.Formula.{Formula, var, next, always, always_for, within, or, implies}
 use Rattle.formula.specs.Pure.{pure, value}
@@ -100,6 +101,6 @@ pub never_for : (rec : Record) → Holds (one (always_for 0) v0) rec 0
 unfolding Holds
 never_for rec u y z = absurd (omega arith)
 
-pub refused_for : rule_faults (one (always_for 0) v0) ≡ 12 ∷ []
+pub refused_for : rule_faults (one (always_for 0) v0) ≡ ZeroFor ∷ []
 unfolding faults
 refused_for = refl

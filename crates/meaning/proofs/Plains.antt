@@ -9,6 +9,8 @@ use native.Mathlib.Omega.{arith}
 use native.Mathlib.Numerals.{add-one}
 use lib.Dec.{leb, eqb, leb-zero, leb-suc-suc}
 use borrow.Author.Tests.{leb-true, le-leb, ne_eqb}
+use Rattle.result.specs.declared.Refusal.{Refusal}
+use Rattle.result.specs.declared.Refusal.TheVariants.{ZeroFor, Antecedent, WithinOperand, NextConsequent, Consequent, NextOperand, NotOperand}
 use Rattle.formula.specs.Tree.{leaf, one, two, size}
 use Rattle.formula.specs.Formula.{Formula, not, next, always, eventually, always_for, within, and, or, implies, until}
 use Rattle.formula.specs.Pure.{pure, value, unless}
@@ -26,27 +28,27 @@ use Rattle.meaning.proofs.Truths.{and_true, true_and, and_false, false_and, or_f
 use Rattle.meaning.proofs.Logics.{valued}
 
 -- ---- a plain rule has no fault
-unless_none : (b : Bool) (n : ℕ) → b ≡ true → unless b n ≡ []
+unless_none : (b : Bool) (n : Refusal) → b ≡ true → unless b n ≡ []
 unless_none b n e = rw e refl
 
 pure_consequent : (f : Formula) → Pure f → consequent f ≡ []
 unfolding consequent pure
 pure_consequent (leaf a) p = refl
-pure_consequent (one not f) p = unless_none (pure f) 16 p
+pure_consequent (one not f) p = unless_none (pure f) Consequent p
 pure_consequent (one next f) p = true_false p refl
 pure_consequent (one always f) p = true_false p refl
 pure_consequent (one eventually f) p = true_false p refl
 pure_consequent (one (always_for b) f) p = true_false p refl
 pure_consequent (one (within b) f) p = true_false p refl
-pure_consequent (two o l r) p = unless_none (pure (two o l r)) 16 p
+pure_consequent (two o l r) p = unless_none (pure (two o l r)) Consequent p
 
-no_faults : (a b : List ℕ) → a ≡ [] → b ≡ [] → a ++ b ≡ []
+no_faults : (a b : List Refusal) → a ≡ [] → b ≡ [] → a ++ b ≡ []
 no_faults a b p q = rw (p, q) refl
 
 pub pure_faults : (f : Formula) (temporal : Bool) → Pure f → faults f temporal ≡ []
 unfolding faults pure
 pure_faults (leaf a) x p = refl
-pure_faults (one not f) x p = unless_none (pure f) 18 p
+pure_faults (one not f) x p = unless_none (pure f) NotOperand p
 pure_faults (one next f) x p = true_false p refl
 pure_faults (one always f) x p = true_false p refl
 pure_faults (one eventually f) x p = true_false p refl
@@ -54,25 +56,25 @@ pure_faults (one (always_for b) f) x p = true_false p refl
 pure_faults (one (within b) f) x p = true_false p refl
 pure_faults (two and l r) x p = let q = and_true (pure l) (pure r) p in no_faults _ _ (pure_faults l x q.0) (pure_faults r x q.1)
 pure_faults (two or l r) x p = let q = and_true (pure l) (pure r) p in no_faults _ _ (pure_faults l x q.0) (pure_faults r x q.1)
-pure_faults (two implies l r) x p = let q = and_true (pure l) (pure r) p in no_faults _ _ (unless_none (pure l) 13 q.0) (pure_consequent r q.1)
+pure_faults (two implies l r) x p = let q = and_true (pure l) (pure r) p in no_faults _ _ (unless_none (pure l) Antecedent q.0) (pure_consequent r q.1)
 pure_faults (two until l r) x p = true_false p refl
 
 pub body_faults : {x : Bool} {f : Formula} → Body x f → faults f true ≡ []
 unfolding faults consequent
 body_faults (signal {f = f} p) = pure_faults f true p
-body_faults (next_signal {f = f} p) = unless_none (pure f) 17 p
-body_faults (delayed {l = l} {f = f} p q) = no_faults _ _ (unless_none (pure l) 13 p) (unless_none (pure f) 15 q)
-body_faults (soon {f = f} p) = unless_none (pure f) 14 p
-body_faults (answered {l = l} {f = f} p q) = no_faults _ _ (unless_none (pure l) 13 p) (unless_none (pure f) 14 q)
+body_faults (next_signal {f = f} p) = unless_none (pure f) NextOperand p
+body_faults (delayed {l = l} {f = f} p q) = no_faults _ _ (unless_none (pure l) Antecedent p) (unless_none (pure f) NextConsequent q)
+body_faults (soon {f = f} p) = unless_none (pure f) WithinOperand p
+body_faults (answered {l = l} {f = f} p q) = no_faults _ _ (unless_none (pure l) Antecedent p) (unless_none (pure f) WithinOperand q)
 body_faults (both b c) = no_faults _ _ (body_faults b) (body_faults c)
 body_faults (again e b) = body_faults b
 
 pub plain_faults : {f : Formula} → Plain f → rule_faults f ≡ []
 unfolding faults consequent
 plain_faults (plain_always b) = body_faults b
-plain_faults (plain_always_for {b = b} {f = f} z p) = no_faults (when (eqb b 0) 12) (faults f true) (ap (λ (x : Bool). when x 12) (ne_eqb b 0 (λ e. omega arith))) (body_faults p)
-plain_faults (plain_within {f = f} p) = unless_none (pure f) 14 p
-plain_faults (plain_answered {l = l} {f = f} p q) = no_faults _ _ (unless_none (pure l) 13 p) (unless_none (pure f) 14 q)
+plain_faults (plain_always_for {b = b} {f = f} z p) = no_faults (when (eqb b 0) ZeroFor) (faults f true) (ap (λ (x : Bool). when x ZeroFor) (ne_eqb b 0 (λ e. omega arith))) (body_faults p)
+plain_faults (plain_within {f = f} p) = unless_none (pure f) WithinOperand p
+plain_faults (plain_answered {l = l} {f = f} p q) = no_faults _ _ (unless_none (pure l) Antecedent p) (unless_none (pure f) WithinOperand q)
 plain_faults (plain_and b c) = no_faults _ _ (plain_faults b) (plain_faults c)
 
 -- ---- ranges

@@ -3,6 +3,7 @@
 --     kept      the rule compiles, and its monitor stepped from fresh over the words gives that report
 use Rattle.std.specs.Prelude.{Bool, true, false, ◌&&◌, List, [], ◌∷◌, ℕ, eqb, ℤ, pos, negsuc}
 use Rattle.std.proofs.Math.Option.{Option, none, some}
+use Rattle.result.specs.declared.Refusal.{Refusal}
 use Rattle.formula.specs.Tree.{leaf, one, two}
 use Rattle.formula.specs.Formula.{Formula, var, next, always, always_for, within, or, implies}
 use Rattle.monitor.specs.Compile.{rule_faults, rule_node}
@@ -61,7 +62,7 @@ same_report none (some y) = false
 same_report (some x) none = false
 same_report (some x) (some y) = eqb x.0 y.0 && same_number x.1 y.1
 
-abbrev pub no_faults : List ℕ → Bool
+abbrev pub no_faults : List Refusal → Bool
 no_faults [] = true
 no_faults (n ∷ ns) = false
 

@@ -5,16 +5,16 @@ use mathlib.Core.List.{List, ◌∷◌}
 use mathlib.Core.Option.{Option, none, some}
 use Prim.Native.Nat.{ℕ, zero, suc, ◌+◌, ◌-◌, ◌*◌, ◌/◌, ◌≤◌, ◌<◌}
 use native.Mathlib.Omega.{arith}
-use lib.Dec.{leb}
+use lib.Dec.{leb, eqb}
 use lib.ListN.{length}
-use borrow.Author.Tests.{le-leb, leb-true}
+use borrow.Author.Tests.{le-leb, leb-true, eqb-true, eqb-false}
 use Rattle.formula.specs.Tree.{Tree, leaf, one, two, tree_of, size, depth, all}
 use Rattle.formula.specs.Spells.{run, Spells}
 use Rattle.formula.specs.Formula.{Formula}
 use Rattle.formula.specs.Table.{IsRule, is_some, keep, rule_of}
 use Rattle.formula.specs.Walk.{Walked}
-use Rattle.formula.specs.declared.table.Walk.{Walk}
-use Rattle.formula.specs.declared.table.Walk.TheVariants.{Upto, Stuck}
+use Rattle.std.specs.Prelude.{None, Option as Opt, Some}
+use Rattle.std.specs.Option.{option_eq}
 use Rattle.formula.proofs.Trees.{some_inj, none_some, tree_spells, spells_tree, spells_unique}
 use Rattle.formula.proofs.Walks.{both_true}
 use Rattle.formula.proofs.Rules.{keep_inv}
@@ -96,18 +96,30 @@ module _ (ops nums : List ℕ) (first count : ℕ) (nodes : List ℕ) (nfirst nc
   all_any (one n t) = elim n [ ]
   all_any (two j l r) = ap₂ ◌&&◌ (all_any l) (all_any r)
 
-  pub no_nodes : (w : Walk) → Walked (cells ops nums first count nodes) any_check nfirst (nfirst + ncount) 64 w → w ≡ Stuck → false ≡ is_some (compiled_of ops nums first count nodes nfirst ncount)
-  no_nodes w x q = none_held (λ f t h. x.stuck q (nfirst + ncount) t (record { spells = h.spells; ends = omega (arith, h.covers); inside = omega arith; shallow = h.shallow; good = all_any t }))
+  module _ (w : Opt ℕ) (x : Walked (cells ops nums first count nodes) any_check nfirst (nfirst + ncount) 64 w) where
+    no_nodes : w ≡ None → false ≡ is_some (compiled_of ops nums first count nodes nfirst ncount)
+    no_nodes q = none_held (λ f t h. x.stuck q (nfirst + ncount) t (record { spells = h.spells; ends = omega (arith, h.covers); inside = omega arith; shallow = h.shallow; good = all_any t }))
 
-  module _ (w : Walk) (e : ℕ) (x : Walked (cells ops nums first count nodes) any_check nfirst (nfirst + ncount) 64 w) (q : w ≡ Upto e) where
-    pub other_end : (e ≡ nfirst + ncount → ⊥) → false ≡ is_some (compiled_of ops nums first count nodes nfirst ncount)
-    other_end n = none_held λ f t h.
+    other_end : (e : ℕ) → w ≡ Some e → (e ≡ nfirst + ncount → ⊥) → false ≡ is_some (compiled_of ops nums first count nodes nfirst ncount)
+    other_end e q n = none_held λ f t h.
         let (u, s) = x.found e q in
         let m : u ≡ t = spells_unique (cells ops nums first count nodes) nfirst u t s.spells h.spells in
         n (s.ends ∙ ap (λ (y : Tree Check Never Join). nfirst + size y) m ∙ ap (λ (k : ℕ). nfirst + k) h.covers)
 
-    pub all_nodes : IsRule ops nums first count → e ≡ nfirst + ncount → ncount ≤ 256 → ncount ≤ length nodes / 7 → nfirst ≤ length nodes / 7 - ncount
-        → true ≡ is_some (compiled_of ops nums first count nodes nfirst ncount)
-    all_nodes u n a b c =
-        let (t, s) = x.found e q in
-        sym (ap is_some (held u.formula t (record { rule = u.is; few = a; in_nodes = end_inside b c; spells = s.spells; covers = omega (arith, s.ends); shallow = s.shallow })))
+    -- the walk ends where the part does exactly where a compiled rule stands there
+    pub nodes_end : IsRule ops nums first count → ncount ≤ 256 → ncount ≤ length nodes / 7 → nfirst ≤ length nodes / 7 - ncount
+        → option_eq eqb w (Some (nfirst + ncount)) ≡ is_some (compiled_of ops nums first count nodes nfirst ncount)
+    nodes_end u a b c = go w refl
+      where
+        all_nodes : (e : ℕ) → w ≡ Some e → e ≡ nfirst + ncount → true ≡ is_some (compiled_of ops nums first count nodes nfirst ncount)
+        all_nodes e q n =
+            let (t, s) = x.found e q in
+            sym (ap is_some (held u.formula t (record { rule = u.is; few = a; in_nodes = end_inside b c; spells = s.spells; covers = omega (arith, s.ends); shallow = s.shallow })))
+
+        same : (e : ℕ) (t : Bool) → eqb e (nfirst + ncount) ≡ t → w ≡ Some e → t ≡ is_some (compiled_of ops nums first count nodes nfirst ncount)
+        same e true h q = all_nodes e q (eqb-true _ _ h)
+        same e false h q = other_end e q (eqb-false _ _ h)
+
+        go : (o : Opt ℕ) → w ≡ o → option_eq eqb o (Some (nfirst + ncount)) ≡ is_some (compiled_of ops nums first count nodes nfirst ncount)
+        go None q = no_nodes q
+        go (Some e) q = same e _ refl q

@@ -18,7 +18,7 @@ use Rattle.monitor.specs.declared.node.SignalExpr.{SignalExpr}
 use Rattle.monitor.specs.declared.node.SignalExpr.TheVariants.{True, At}
 use Rattle.monitor.specs.declared.node.MonNode.{MonNode}
 use Rattle.monitor.specs.declared.node.MonNode.TheVariants.{RangeCheck, DelayedCheck, Obligation, And as AndNode, Or as OrNode}
-use Rattle.monitor.specs.declared.node.Row.TheVariants.{Node, Unknown}
+use Rattle.std.specs.Prelude.{None, Some}
 use Rattle.monitor.specs.Mon.{expr_number, row, node_row}
 use Rattle.monitor.specs.Table.{Numbered, NodeNumbered, expr_from, range_from, form_at, cell, row_of}
 
@@ -87,27 +87,27 @@ owed_second n b s t r h e = (subst NodeNumbered e h).1
 
 -- ---- a row read
 module _ (nodes : List ℕ) (i : ℕ) where
-  pub row_unknown : 5 ≤ form_at nodes i → Unknown ≡ row_of nodes i
+  pub row_unknown : 5 ≤ form_at nodes i → None ≡ row_of nodes i
   unfolding row_of
   row_unknown h = rw (le-ltb (form_at nodes i) 1 (omega arith), le-ltb (form_at nodes i) 2 (omega arith), le-ltb (form_at nodes i) 3 (omega arith), le-ltb (form_at nodes i) 4 (omega arith), le-ltb (form_at nodes i) 5 h) refl
 
-  pub row_or : form_at nodes i < 5 → 4 ≤ form_at nodes i → Node OrNode ≡ row_of nodes i
+  pub row_or : form_at nodes i < 5 → 4 ≤ form_at nodes i → Some OrNode ≡ row_of nodes i
   unfolding row_of
   row_or g h = rw (le-ltb (form_at nodes i) 1 (omega arith), le-ltb (form_at nodes i) 2 (omega arith), le-ltb (form_at nodes i) 3 (omega arith), le-ltb (form_at nodes i) 4 h, lt-ltb (form_at nodes i) 5 g) refl
 
-  pub row_and : form_at nodes i < 4 → 3 ≤ form_at nodes i → Node AndNode ≡ row_of nodes i
+  pub row_and : form_at nodes i < 4 → 3 ≤ form_at nodes i → Some AndNode ≡ row_of nodes i
   unfolding row_of
   row_and g h = rw (le-ltb (form_at nodes i) 1 (omega arith), le-ltb (form_at nodes i) 2 (omega arith), le-ltb (form_at nodes i) 3 h, lt-ltb (form_at nodes i) 4 g) refl
 
   module _ (r : AnchorRange) (s t : SignalExpr) (p : r ≡ range_from (cell nodes i 2) (cell nodes i 3) (cell nodes i 4)) (q : s ≡ expr_from (cell nodes i 5)) where
-    pub row_range : form_at nodes i < 1 → Node (RangeCheck s r) ≡ row_of nodes i
+    pub row_range : form_at nodes i < 1 → Some (RangeCheck s r) ≡ row_of nodes i
     unfolding row_of
     row_range h = rw (lt-ltb (form_at nodes i) 1 h, p, q) refl
 
-    pub row_delayed : t ≡ expr_from (cell nodes i 6) → 1 ≤ form_at nodes i → form_at nodes i < 2 → Node (DelayedCheck s t r) ≡ row_of nodes i
+    pub row_delayed : t ≡ expr_from (cell nodes i 6) → 1 ≤ form_at nodes i → form_at nodes i < 2 → Some (DelayedCheck s t r) ≡ row_of nodes i
     unfolding row_of
     row_delayed w g h = rw (le-ltb (form_at nodes i) 1 g, lt-ltb (form_at nodes i) 2 h, p, q, w) refl
 
-    pub row_owed : t ≡ expr_from (cell nodes i 6) → 2 ≤ form_at nodes i → form_at nodes i < 3 → Node (Obligation (cell nodes i 1) s t r) ≡ row_of nodes i
+    pub row_owed : t ≡ expr_from (cell nodes i 6) → 2 ≤ form_at nodes i → form_at nodes i < 3 → Some (Obligation (cell nodes i 1) s t r) ≡ row_of nodes i
     unfolding row_of
     row_owed w g h = rw (le-ltb (form_at nodes i) 1 (omega arith), le-ltb (form_at nodes i) 2 g, lt-ltb (form_at nodes i) 3 h, p, q, w) refl

@@ -1,8 +1,10 @@
--- Document 01, "Nodes and alarms" up to the alarms, and refusals 11 to 19: what a formula compiles to (`compile_formula` of
+-- Document 01, "Nodes and alarms" up to the alarms, and refusals NestedFor to 19: what a formula compiles to (`compile_formula` of
 -- src/codegen/monitor.rs).
 --     faults    the refusals that apply, in the order of the walk: parents first, left before right. The first is the answer
 --     node      the node that a formula gives where no refusal applies
 use Rattle.std.specs.Prelude.{Bool, true, false, List, [], ◌∷◌, ◌++◌, ℕ, ◌+◌, ◌-◌, eqb}
+use Rattle.result.specs.declared.Refusal.{Refusal}
+use Rattle.result.specs.declared.Refusal.TheVariants.{NestedFor, ZeroFor, Antecedent, WithinOperand, NextConsequent, Consequent, NextOperand, NotOperand, Liveness}
 use Rattle.formula.specs.Tree.{leaf, one, two, size}
 use Rattle.formula.specs.Formula.{Formula, not, next, always, eventually, always_for, within, and, or, implies, until}
 use Rattle.formula.specs.Pure.{pure, unless}
@@ -10,35 +12,35 @@ use Rattle.monitor.specs.declared.range.AnchorRange.{AnchorRange}
 use Rattle.monitor.specs.Range.{all_of, upto_of, shifted_of}
 use Rattle.monitor.specs.Mon.{always_true, at, Check, range_check, delayed_check, obligation, Mon, check, And, Or}
 
--- refusal n, where the test holds
-abbrev pub when : Bool → ℕ → List ℕ
+-- a refusal, where the test holds
+abbrev pub when : Bool → Refusal → List Refusal
 when true n = n ∷ []
 when false n = []
 
 -- the right part of `implies`
-unfoldable pub consequent : Formula → List ℕ
-consequent (one (within b) f) = unless (pure f) 14
-consequent (one next f) = unless (pure f) 15
-consequent (leaf a) = unless (pure (leaf a)) 16
-consequent (one not f) = unless (pure (one not f)) 16
-consequent (one always f) = unless (pure (one always f)) 16
-consequent (one eventually f) = unless (pure (one eventually f)) 16
-consequent (one (always_for b) f) = unless (pure (one (always_for b) f)) 16
-consequent (two o l r) = unless (pure (two o l r)) 16
+unfoldable pub consequent : Formula → List Refusal
+consequent (one (within b) f) = unless (pure f) WithinOperand
+consequent (one next f) = unless (pure f) NextConsequent
+consequent (leaf a) = unless (pure (leaf a)) Consequent
+consequent (one not f) = unless (pure (one not f)) Consequent
+consequent (one always f) = unless (pure (one always f)) Consequent
+consequent (one eventually f) = unless (pure (one eventually f)) Consequent
+consequent (one (always_for b) f) = unless (pure (one (always_for b) f)) Consequent
+consequent (two o l r) = unless (pure (two o l r)) Consequent
 
 -- `temporal`: the formula stands under a temporal operator
-unfoldable pub faults : Formula → Bool → List ℕ
+unfoldable pub faults : Formula → Bool → List Refusal
 faults (leaf a) temporal = []
-faults (one not f) temporal = unless (pure f) 18
-faults (one next f) temporal = unless (pure f) 17
+faults (one not f) temporal = unless (pure f) NotOperand
+faults (one next f) temporal = unless (pure f) NextOperand
 faults (one always f) temporal = faults f true
-faults (one eventually f) temporal = 19 ∷ []
-faults (one (always_for b) f) temporal = when temporal 11 ++ (when (eqb b 0) 12 ++ faults f true)
-faults (one (within b) f) temporal = unless (pure f) 14
+faults (one eventually f) temporal = Liveness ∷ []
+faults (one (always_for b) f) temporal = when temporal NestedFor ++ (when (eqb b 0) ZeroFor ++ faults f true)
+faults (one (within b) f) temporal = unless (pure f) WithinOperand
 faults (two and l r) temporal = faults l temporal ++ faults r temporal
 faults (two or l r) temporal = faults l temporal ++ faults r temporal
-faults (two implies l r) temporal = unless (pure l) 13 ++ consequent r
-faults (two until l r) temporal = 19 ∷ []
+faults (two implies l r) temporal = unless (pure l) Antecedent ++ consequent r
+faults (two until l r) temporal = Liveness ∷ []
 
 -- a `within` that is not under a temporal operator has range 0 to 0
 abbrev pub anchor : Bool → AnchorRange → AnchorRange
@@ -76,7 +78,7 @@ node (two implies l c) i r temporal = check (implication l c i (i + 1 + size l) 
 node (two until l c) i r temporal = check (range_check (at i (two until l c)) r)
 
 -- a whole rule at place i
-abbrev pub rule_faults : Formula → List ℕ
+abbrev pub rule_faults : Formula → List Refusal
 rule_faults f = faults f false
 
 abbrev pub rule_node : Formula → ℕ → Mon

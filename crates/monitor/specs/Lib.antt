@@ -3,3 +3,4 @@ pub mod Range
 pub mod Mon
 pub mod Compile
 pub mod Table
+pub mod Tables

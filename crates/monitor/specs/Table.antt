@@ -21,10 +21,9 @@ use Rattle.monitor.specs.declared.node.SignalExpr.{SignalExpr}
 use Rattle.monitor.specs.declared.node.SignalExpr.TheVariants.{True, At}
 use Rattle.monitor.specs.declared.node.MonNode.{MonNode}
 use Rattle.monitor.specs.declared.node.MonNode.TheVariants.{RangeCheck, DelayedCheck, Obligation, And as AndNode, Or as OrNode}
-use Rattle.monitor.specs.declared.node.Row.{Row}
-use Rattle.monitor.specs.declared.node.Row.TheVariants.{Node, Unknown}
+use Rattle.std.specs.Prelude.{None, Option as Opt, Some}
 use Rattle.monitor.specs.declared.table.Kind.{Kind}
-use Rattle.monitor.specs.declared.table.Kind.TheVariants.{Check as Check', Joined, Unknown as Unknown'}
+use Rattle.monitor.specs.declared.table.Kind.TheVariants.{Check as Check', Joined}
 use Rattle.monitor.specs.Mon.{Signal, always_true, at, Check, range_check, delayed_check, obligation, Mon, check, And, Or}
 
 -- ---- one row
@@ -53,17 +52,17 @@ form_at nodes i = get_or nodes (row_cells * i) 0
 abbrev pub cell : List ℕ → ℕ → ℕ → ℕ
 cell nodes i j = get_or nodes (row_cells * i + j) 0
 
-unfoldable pub row_of : List ℕ → ℕ → Row
+unfoldable pub row_of : List ℕ → ℕ → Opt MonNode
 row_of nodes i =
     let form = form_at nodes i in
     let r = range_from (cell nodes i 2) (cell nodes i 3) (cell nodes i 4) in
     let s = expr_from (cell nodes i 5) in
     let t = expr_from (cell nodes i 6) in
-    pick (ltb form delayed_form) (Node (RangeCheck s r))
-    (pick (ltb form obligation_form) (Node (DelayedCheck s t r))
-    (pick (ltb form and_form) (Node (Obligation (cell nodes i 1) s t r))
-    (pick (ltb form or_form) (Node AndNode)
-    (pick (ltb form forms) (Node OrNode) Unknown))))
+    pick (ltb form delayed_form) (Some (RangeCheck s r))
+    (pick (ltb form obligation_form) (Some (DelayedCheck s t r))
+    (pick (ltb form and_form) (Some (Obligation (cell nodes i 1) s t r))
+    (pick (ltb form or_form) (Some AndNode)
+    (pick (ltb form forms) (Some OrNode) None))))
 
 -- ---- the signals
 -- the part of a formula whose node is number k in prefix order
@@ -99,15 +98,15 @@ abbrev pub checked : (Signal → Cell) → Option Signal → Cell
 checked k none = unknown
 checked k (some s) = k s
 
-abbrev pub cell_of : Formula → ℕ → Row → Cell
-cell_of f first (Node (RangeCheck s r)) = checked (λ x. leaf_of (range_check x r)) (signal_of f first s)
-cell_of f first (Node (DelayedCheck s t r)) =
+abbrev pub cell_of : Formula → ℕ → Opt MonNode → Cell
+cell_of f first (Some (RangeCheck s r)) = checked (λ x. leaf_of (range_check x r)) (signal_of f first s)
+cell_of f first (Some (DelayedCheck s t r)) =
     checked (λ x. checked (λ y. leaf_of (delayed_check x y r)) (signal_of f first t)) (signal_of f first s)
-cell_of f first (Node (Obligation b s t r)) =
+cell_of f first (Some (Obligation b s t r)) =
     checked (λ x. checked (λ y. leaf_of (obligation b x y r)) (signal_of f first t)) (signal_of f first s)
-cell_of f first (Node AndNode) = two_of join_and
-cell_of f first (Node OrNode) = two_of join_or
-cell_of f first Unknown = unknown
+cell_of f first (Some AndNode) = two_of join_and
+cell_of f first (Some OrNode) = two_of join_or
+cell_of f first None = unknown
 
 unfoldable pub cell_at : Formula → ℕ → List ℕ → ℕ → Cell
 cell_at f first nodes i = cell_of f first (row_of nodes i)
@@ -128,7 +127,7 @@ mon_of f first nodes nfirst ncount =
     (limited_mon (tree_of (run (cell_at f first nodes) nfirst ncount)))
 
 -- ---- the two tables together: the rule's formula, and the compiled rule over it
-abbrev pub cell_by : Option Formula → ℕ → Row → Cell
+abbrev pub cell_by : Option Formula → ℕ → Opt MonNode → Cell
 cell_by none first r = unknown
 cell_by (some f) first r = cell_of f first r
 
@@ -144,11 +143,11 @@ unfoldable pub compiled_of : List ℕ → List ℕ → ℕ → ℕ → List ℕ 
 compiled_of ops nums first count nodes nfirst ncount = mon_by (rule_of ops nums first count) first nodes nfirst ncount
 
 -- what kind of node stands in a row
-abbrev pub kind_of : Cell → Kind
-kind_of (leaf_of c) = Check'
-kind_of (one_of n) = Unknown'
-kind_of (two_of j) = Joined
-kind_of unknown = Unknown'
+abbrev pub kind_of : Cell → Opt Kind
+kind_of (leaf_of c) = Some Check'
+kind_of (one_of n) = None
+kind_of (two_of j) = Some Joined
+kind_of unknown = None
 
 abbrev pub signal_by : Option Formula → ℕ → SignalExpr → Option Signal
 signal_by none first e = none

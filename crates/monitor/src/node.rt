@@ -10,14 +10,14 @@ use terms::form::{AND, DELAYED, FORMS, OBLIGATION, OR, RANGE};
 use terms::limit::ROW_CELLS;
 
 // A signal: the constant true, or the pure formula at a place of the formula table.
-#[derive(Clone, Copy)]
+#[derive(Clone, Copy, Debug, PartialEq, Eq)]
 pub enum SignalExpr {
     True,
     At(usize),
 }
 
 // A node without its parts. A joined node's parts stand behind it.
-#[derive(Clone, Copy)]
+#[derive(Clone, Copy, Debug, PartialEq, Eq)]
 pub enum MonNode {
     RangeCheck {
         expr: SignalExpr,
@@ -38,20 +38,13 @@ pub enum MonNode {
     Or,
 }
 
-// What a row of a node table holds.
-#[derive(Clone, Copy)]
-pub enum Row {
-    Node(MonNode),
-    Unknown,
-}
-
 fn expr_number(e: SignalExpr) -> u64
     requires { Numbered e }
     ensures { result ≡ expr_number e }
 {
     match e {
         SignalExpr::True => 0,
-        SignalExpr::At(p) => (p as u64) + 1,
+        SignalExpr::At(p) => p as u64 + 1,
     }
 }
 
@@ -163,36 +156,36 @@ fn range_from(from: u64, has: u64, to: u64) -> AnchorRange
     }
 }
 
-// The node in row i.
-pub fn row_at(nodes: &[u64], i: usize) -> Row
+// The node in row i, if its form is one.
+pub fn row_at(nodes: &[u64], i: usize) -> Option<MonNode>
     requires { row_cells * (i + 1) ≤ length nodes.now }
     ensures { result ≡ row_of nodes.now i }
 {
     let k = ROW_CELLS * i;
     let form = nodes[k];
     if FORMS <= form {
-        return Row::Unknown;
+        return None;
     }
     if OR <= form {
-        return Row::Node(MonNode::Or);
+        return Some(MonNode::Or);
     }
     if AND <= form {
-        return Row::Node(MonNode::And);
+        return Some(MonNode::And);
     }
     let range = range_from(nodes[k + 2], nodes[k + 3], nodes[k + 4]);
     let s = expr_from(nodes[k + 5]);
     if form < DELAYED {
-        return Row::Node(MonNode::RangeCheck { expr: s, range });
+        return Some(MonNode::RangeCheck { expr: s, range });
     }
     let t = expr_from(nodes[k + 6]);
     if form < OBLIGATION {
-        return Row::Node(MonNode::DelayedCheck {
+        return Some(MonNode::DelayedCheck {
             antecedent: s,
             consequent: t,
             range,
         });
     }
-    Row::Node(MonNode::Obligation {
+    Some(MonNode::Obligation {
         bound: nodes[k + 1],
         trigger: s,
         body: t,

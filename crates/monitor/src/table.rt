@@ -1,190 +1,174 @@
-// The validation of a node table over the rule's formula.
+// The tables that hold compiled rules, and the validation of a rule's part of them.
 ghost use Rattle.std.specs.Prelude.{◌≡◌, ◌+◌, ◌*◌, ◌≤◌, length};
 ghost use Rattle.terms.specs.Limits.{row_cells};
-ghost use Rattle.formula.specs.Table.{IsRule, is_some, rule_of};
+ghost use Rattle.formula.specs.Table.{is_some};
 ghost use Rattle.formula.specs.Walk.{Walked};
-ghost use Rattle.monitor.specs.Table.{signal_by, cell_by, cells, kind_of, any_check, compiled_of};
+ghost use Rattle.monitor.specs.Table.{signal_by, cell_by, kind_of, any_check};
+ghost use Rattle.monitor.specs.Tables.{RuleIn, rule_in, cells_in, compiled_in};
 
-use crate::node::{MonNode, Row, SignalExpr, row_at};
-use formula::signal::boolean_over_atoms;
-use formula::table::{Walk, is_rule};
+use crate::node::{MonNode, SignalExpr, row_at};
+use formula::table::FormulaTable;
 use terms::limit::{DEEPEST, ROW_CELLS, RULE_NODES};
 
-// Whether a pure part of the rule's formula stands at p.
-fn is_pure_part(ops: &[u8], nums: &[u64], first: usize, count: usize, p: usize) -> bool
-    requires { IsRule ops.now nums.now first count }
-    ensures { result ≡ is_some (signal_by (rule_of ops.now nums.now first count) first (SignalExpr.At p)) }
-{
-    if p < first {
-        return false;
-    }
-    if count <= p - first {
-        return false;
-    }
-    let Walk::Upto(_) = boolean_over_atoms(ops, nums, p) else {
-        return false;
-    };
-    true
+// The lent tables: formulas, and the nodes that they compile to.
+#[derive(Clone, Copy)]
+pub struct Tables<'a> {
+    pub formulas: FormulaTable<'a>,
+    pub nodes: &'a [u64],
 }
 
-// Whether a row's number names a signal.
-fn is_signal(ops: &[u8], nums: &[u64], first: usize, count: usize, e: SignalExpr) -> bool
-    requires { IsRule ops.now nums.now first count }
-    ensures { result ≡ is_some (signal_by (rule_of ops.now nums.now first count) first e) }
-{
-    match e {
-        SignalExpr::True => true,
-        SignalExpr::At(p) => is_pure_part(ops, nums, first, count, p),
-    }
+// A compiled rule's part of the tables: its formula's first place and count, its nodes' first row and count.
+#[derive(Clone, Copy, Debug, PartialEq, Eq)]
+pub struct Part {
+    pub first: usize,
+    pub count: usize,
+    pub nfirst: usize,
+    pub ncount: usize,
 }
 
 // What kind of node stands in a row.
-#[derive(Clone, Copy)]
+#[derive(Clone, Copy, Debug, PartialEq, Eq)]
 pub enum Kind {
     Check,
     Joined,
-    Unknown,
 }
 
-fn kind_of(ops: &[u8], nums: &[u64], first: usize, count: usize, node: MonNode) -> Kind
-    requires { IsRule ops.now nums.now first count }
-    ensures { result ≡ kind_of (cell_by (rule_of ops.now nums.now first count) first (Row.Node node)) }
-{
-    match node {
-        MonNode::RangeCheck { expr, range: _ } => {
-            if is_signal(ops, nums, first, count, expr) {
-                return Kind::Check;
-            }
-            return Kind::Unknown;
+impl<'a> Tables<'a> {
+    // The tables that three lists are.
+    pub fn new(ops: &'a [u8], nums: &'a [u64], nodes: &'a [u64]) -> Self
+        ensures ops { result.formulas.ops.now ≡ ops.now }
+        ensures nums { result.formulas.nums.now ≡ nums.now }
+        ensures nodes { result.nodes.now ≡ nodes.now }
+    {
+        let formulas = FormulaTable { ops, nums };
+        Tables { formulas, nodes }
+    }
+}
+
+impl Tables<'_> {
+    // Whether a pure part of the rule's formula stands at p.
+    fn is_pure_part(&self, part: Part, p: usize) -> bool
+        requires { RuleIn self.now part }
+        ensures { result ≡ is_some (signal_by (rule_in self.now part) part.first (SignalExpr.At p)) }
+    {
+        if p < part.first {
+            return false;
         }
-        MonNode::DelayedCheck {
-            antecedent,
-            consequent,
-            range: _,
-        } => {
-            if is_signal(ops, nums, first, count, antecedent) {
-                if is_signal(ops, nums, first, count, consequent) {
-                    return Kind::Check;
+        if part.count <= p - part.first {
+            return false;
+        }
+        self.formulas.boolean_over_atoms(p).is_some()
+    }
+
+    // Whether a row's number names a signal.
+    fn is_signal(&self, part: Part, e: SignalExpr) -> bool
+        requires { RuleIn self.now part }
+        ensures { result ≡ is_some (signal_by (rule_in self.now part) part.first e) }
+    {
+        match e {
+            SignalExpr::True => true,
+            SignalExpr::At(p) => self.is_pure_part(part, p),
+        }
+    }
+
+    fn kind_of(&self, part: Part, node: MonNode) -> Option<Kind>
+        requires { RuleIn self.now part }
+        ensures { result ≡ kind_of (cell_by (rule_in self.now part) part.first (Some node)) }
+    {
+        match node {
+            MonNode::RangeCheck { expr, range: _ } => {
+                if self.is_signal(part, expr) {
+                    return Some(Kind::Check);
                 }
+                return None;
             }
-            return Kind::Unknown;
-        }
-        MonNode::Obligation {
-            bound: _,
-            trigger,
-            body,
-            range: _,
-        } => {
-            if is_signal(ops, nums, first, count, trigger) {
-                if is_signal(ops, nums, first, count, body) {
-                    return Kind::Check;
+            MonNode::DelayedCheck {
+                antecedent,
+                consequent,
+                range: _,
+            } => {
+                if self.is_signal(part, antecedent) {
+                    if self.is_signal(part, consequent) {
+                        return Some(Kind::Check);
+                    }
                 }
+                return None;
             }
-            return Kind::Unknown;
-        }
-        MonNode::And => {
-            return Kind::Joined;
-        }
-        MonNode::Or => {
-            return Kind::Joined;
+            MonNode::Obligation {
+                bound: _,
+                trigger,
+                body,
+                range: _,
+            } => {
+                if self.is_signal(part, trigger) {
+                    if self.is_signal(part, body) {
+                        return Some(Kind::Check);
+                    }
+                }
+                return None;
+            }
+            MonNode::And => {
+                return Some(Kind::Joined);
+            }
+            MonNode::Or => {
+                return Some(Kind::Joined);
+            }
         }
     }
-}
 
-fn kind_at(ops: &[u8], nums: &[u64], first: usize, count: usize, nodes: &[u64], i: usize) -> Kind
-    requires { IsRule ops.now nums.now first count × (row_cells * (i + 1) ≤ length nodes.now) }
-    ensures { result ≡ kind_of (cells ops.now nums.now first count nodes.now i) }
-{
-    let Row::Node(node) = row_at(nodes, i) else {
-        return Kind::Unknown;
-    };
-    kind_of(ops, nums, first, count, node)
-}
+    fn kind_at(&self, part: Part, i: usize) -> Option<Kind>
+        requires { RuleIn self.now part × (row_cells * (i + 1) ≤ length self.now.nodes.now) }
+        ensures { result ≡ kind_of (cells_in self.now part i) }
+    {
+        let node = row_at(self.nodes, i)?;
+        self.kind_of(part, node)
+    }
 
-// The compiled tree in row i, which has to end by row `end` and to be at most `room` deep.
-fn nodes_at(
-    ops: &[u8],
-    nums: &[u64],
-    first: usize,
-    count: usize,
-    nodes: &[u64],
-    i: usize,
-    end: usize,
-    room: usize,
-) -> Walk
-    requires { IsRule ops.now nums.now first count × (row_cells * end ≤ length nodes.now) }
-    ensures { Walked (cells ops.now nums.now first count nodes.now) any_check i end room result }
-{
-    if end <= i {
-        return Walk::Stuck;
-    }
-    if room == 0 {
-        return Walk::Stuck;
-    }
-    let kind = kind_at(ops, nums, first, count, nodes, i);
-    match kind {
-        Kind::Check => {
-            return Walk::Upto(i + 1);
+    // The compiled tree in row i, which has to end by row `end` and to be at most `room` deep.
+    fn nodes_at(&self, part: Part, i: usize, end: usize, room: usize) -> Option<usize>
+        requires { RuleIn self.now part × (row_cells * end ≤ length self.now.nodes.now) }
+        ensures { Walked (cells_in self.now part) any_check i end room result }
+    {
+        if end <= i {
+            return None;
         }
-        Kind::Unknown => {
-            return Walk::Stuck;
+        if room == 0 {
+            return None;
         }
-        Kind::Joined => {
-            let left = nodes_at(ops, nums, first, count, nodes, i + 1, end, room - 1);
-            let Walk::Upto(e) = left else {
-                return left;
-            };
-            return nodes_at(ops, nums, first, count, nodes, e, end, room - 1);
+        match self.kind_at(part, i)? {
+            Kind::Check => Some(i + 1),
+            Kind::Joined => {
+                let e = self.nodes_at(part, i + 1, end, room - 1)?;
+                self.nodes_at(part, e, end, room - 1)
+            }
         }
     }
-}
 
-// Whether the tables hold a rule and its compiled nodes, within the limits.
-pub fn is_compiled(
-    ops: &[u8],
-    nums: &[u64],
-    first: usize,
-    count: usize,
-    nodes: &[u64],
-    nfirst: usize,
-    ncount: usize,
-) -> bool
-    ensures { result ≡ is_some (compiled_of ops.now nums.now first count nodes.now nfirst ncount) }
-{
-    if is_rule(ops, nums, first, count) {
-        return has_nodes(ops, nums, first, count, nodes, nfirst, ncount);
+    // Whether the tables hold a rule and its compiled nodes, within the limits.
+    pub fn is_compiled(&self, part: Part) -> bool
+        ensures { result ≡ is_some (compiled_in self.now part) }
+    {
+        if self.formulas.is_rule(part.first, part.count) {
+            return self.has_nodes(part);
+        }
+        false
     }
-    false
-}
 
-fn has_nodes(
-    ops: &[u8],
-    nums: &[u64],
-    first: usize,
-    count: usize,
-    nodes: &[u64],
-    nfirst: usize,
-    ncount: usize,
-) -> bool
-    requires { IsRule ops.now nums.now first count }
-    ensures { result ≡ is_some (compiled_of ops.now nums.now first count nodes.now nfirst ncount) }
-{
-    if RULE_NODES < ncount {
-        return false;
+    fn has_nodes(&self, part: Part) -> bool
+        requires { RuleIn self.now part }
+        ensures { result ≡ is_some (compiled_in self.now part) }
+    {
+        if RULE_NODES < part.ncount {
+            return false;
+        }
+        let rows = self.nodes.len() / ROW_CELLS;
+        if rows < part.ncount {
+            return false;
+        }
+        if rows - part.ncount < part.nfirst {
+            return false;
+        }
+        let end = part.nfirst + part.ncount;
+        self.nodes_at(part, part.nfirst, end, DEEPEST) == Some(end)
     }
-    let rows = nodes.len() / ROW_CELLS;
-    if rows < ncount {
-        return false;
-    }
-    if rows - ncount < nfirst {
-        return false;
-    }
-    let end = nfirst + ncount;
-    let Walk::Upto(e) = nodes_at(ops, nums, first, count, nodes, nfirst, end, DEEPEST) else {
-        return false;
-    };
-    if e == end {
-        return true;
-    }
-    false
 }

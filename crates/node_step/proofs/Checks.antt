@@ -3,16 +3,12 @@ use mathlib.Core.Path.{◌≡◌, refl, sym, ap, ap₂, subst, ◌∙◌}
 use mathlib.Core.Bool.{Bool, true, false, ◌&&◌, ◌||◌}
 use mathlib.Core.Bool as bool
 use mathlib.Core.List.{List}
-use Prim.Native.Nat.{ℕ, zero, suc, ◌+◌, ◌-◌, ◌≤◌, ◌<◌}
+use Prim.Native.Nat.{ℕ, zero, suc, ◌+◌, ◌≤◌}
 use native.Mathlib.Omega.{arith}
 use native.Mathlib.Nat.{pos_of_ne-zero}
-use lib.Dec.{eqb}
 use lib.IntN.{pos}
 use lib.ListN.{set}
 use lib.Seq.{set-get_or, set-set}
-use mir.Syntax.{w64}
-use mir.Val.{to_z}
-use mir.Facts.{to_z_pos}
 use Rattle.terms.specs.Choice.{pick}
 use Rattle.formula.specs.Signal.{Signalled, Valued}
 use Rattle.formula.specs.declared.signal.Value.{Value}
@@ -20,15 +16,14 @@ use Rattle.formula.specs.Formula.{Formula}
 use Rattle.monitor.specs.declared.range.AnchorRange.{AnchorRange}
 use Rattle.monitor.specs.declared.node.SignalExpr.{SignalExpr}
 use Rattle.monitor.specs.declared.node.SignalExpr.TheVariants.{True, At}
-use Rattle.monitor.specs.declared.node.MonNode.{MonNode}
-use Rattle.monitor.specs.declared.node.MonNode.TheVariants.{RangeCheck, DelayedCheck, Obligation, And as AndNode, Or as OrNode}
+use Rattle.monitor.specs.declared.node.MonNode.TheVariants.{RangeCheck, DelayedCheck, Obligation}
 use Rattle.monitor.specs.Range.{contains_of}
 use Rattle.monitor.specs.Mon.{Signal, always_true, at, Check, range_check, delayed_check, obligation, expr_of, node_of}
 use Rattle.meaning.specs.Alarm.{truth}
 use Rattle.meaning.specs.State.{ObligationState, CheckShaped, WellKept, check_step, opened, ticked, at_once, unfailed_step, obligation_step}
 use Rattle.node_step.specs.declared.state.MonState.{MonState}
 use Rattle.node_step.specs.Memory.{Memory, get, put, Inside, entries}
-use Rattle.node_step.specs.Check.{obligation_of, entry_of, read_check, write_check, Grounded, Named, SignalSays, GroundedCheck, Steppable, Checkable, CheckStepped, DelayedNow, TriggerDue, Openable, Opened, Tickable, Ticked, AtOnce, DoneAtOnce}
+use Rattle.node_step.specs.Check.{obligation_of, entry_of, read_check, write_check, Grounded, Named, SignalSays, GroundedCheck, Steppable, Checkable, CheckStepped, DelayedNow, Opened, Tickable, Ticked, DoneAtOnce}
 use Rattle.node_step.proofs.Entries.{get_put_same, inside_put, put_get}
 
 -- ---- signals
@@ -66,72 +61,8 @@ module _ (ops nums : List ℕ) (e : SignalExpr) (w : ℕ) where
           let m : o ≡ p = at_place (h ∙ q) in
           (k.is f (subst (λ (n : ℕ). Rattle.formula.specs.Spells.Spells (Rattle.formula.specs.Table.node_at ops nums) n f) m g.spells)).0
 
--- ---- ranges
-module _ (ops nums : List ℕ) (e : SignalExpr) (r : AnchorRange) (s w : ℕ) (b : Bool) (h : b ≡ contains_of r s) where
-  pub due_in : (t : Bool) → b ≡ true → SignalSays ops nums e w t → TriggerDue ops nums e r s w t
-  due_in t q k = record { is = λ x u g. k.is x u g ∙ ap (λ (y : Bool). y && truth x w) (sym q ∙ h) }
-
-  pub due_out : b ≡ false → TriggerDue ops nums e r s w false
-  due_out q = record { is = λ x u g. ap (λ (y : Bool). y && truth x w) (sym q ∙ h) }
-
-  module _ (st : MonState) (f : st.failed ≡ false) where
-    pub delayed_out : b ≡ false → DelayedNow ops nums e r st s w false
-    delayed_out q = record {
-      is = λ x u g.
-          sym (ap (λ (y : Bool). y || (contains_of r s && (st.held && bool.not (truth x w)))) f
-          ∙ ap (λ (y : Bool). y && (st.held && bool.not (truth x w))) (sym h ∙ q));
-    }
-
-    pub delayed_quiet : b ≡ true → st.held ≡ false → DelayedNow ops nums e r st s w false
-    delayed_quiet q k = record {
-      is = λ x u g.
-          sym (ap (λ (y : Bool). y || (contains_of r s && (st.held && bool.not (truth x w)))) f
-          ∙ ap (λ (y : Bool). y && (st.held && bool.not (truth x w))) (sym h ∙ q)
-          ∙ ap (λ (y : Bool). y && bool.not (truth x w)) k);
-    }
-
-    module _ (q : b ≡ true) (k : st.held ≡ true) (t : Bool) (v : SignalSays ops nums e w t) where
-      delayed_by : (x : Signal) → expr_of x ≡ e → Grounded ops nums x → (st.failed || (contains_of r s && (st.held && bool.not (truth x w)))) ≡ bool.not t
-      delayed_by x u g =
-          ap (λ (y : Bool). y || (contains_of r s && (st.held && bool.not (truth x w)))) f
-          ∙ ap (λ (y : Bool). y && (st.held && bool.not (truth x w))) (sym h ∙ q)
-          ∙ ap (λ (y : Bool). y && bool.not (truth x w)) k
-          ∙ ap bool.not (sym (v.is x u g))
-
-      pub delayed_met : t ≡ true → DelayedNow ops nums e r st s w false
-      delayed_met z = record { is = λ x u g. sym (delayed_by x u g ∙ ap bool.not z) }
-
-      pub delayed_missed : t ≡ false → DelayedNow ops nums e r st s w true
-      delayed_missed z = record { is = λ x u g. sym (delayed_by x u g ∙ ap bool.not z) }
-
-pub delayed_failed : (ops nums : List ℕ) (e : SignalExpr) (r : AnchorRange) (s w : ℕ) (st : MonState) → st.failed ≡ true → DelayedNow ops nums e r st s w true
-delayed_failed ops nums e r s w st f = record { is = λ x u g. sym (ap (λ (y : Bool). y || (contains_of r s && (st.held && bool.not (truth x w)))) f) }
-
 -- ---- what a check's signals are named by
 module _ (ops nums : List ℕ) (st : MonState) (s : ℕ) where
-  pub range_signal : (e : SignalExpr) (r : AnchorRange) → Steppable ops nums (RangeCheck e r) st s → Named ops nums e
-  range_signal e r d = go d.check d.is d.stands
-    where
-      go : (c : Check) → node_of c ≡ RangeCheck e r → GroundedCheck ops nums c → Named ops nums e
-      go (range_check p q) h g = record { signal = p; is = (cc); stands = g }
-      go (delayed_check p p' q) h g = let z : ◌≡◌ {A = ℕ} 0 1 = cc in absurd (omega arith)
-      go (obligation b p p' q) h g = let z : ◌≡◌ {A = ℕ} 0 1 = cc in absurd (omega arith)
-
-  module _ (e e' : SignalExpr) (r : AnchorRange) (d : Steppable ops nums (DelayedCheck e e' r) st s) where
-    delayed_names : Named ops nums e × Named ops nums e'
-    delayed_names = go d.check d.is d.stands
-      where
-        go : (c : Check) → node_of c ≡ DelayedCheck e e' r → GroundedCheck ops nums c → Named ops nums e × Named ops nums e'
-        go (range_check p q) h g = let z : ◌≡◌ {A = ℕ} 0 1 = cc in absurd (omega arith)
-        go (delayed_check p p' q) h g = (record { signal = p; is = (cc); stands = g.0 }, record { signal = p'; is = (cc); stands = g.1 })
-        go (obligation b p p' q) h g = let z : ◌≡◌ {A = ℕ} 0 1 = cc in absurd (omega arith)
-
-    pub antecedent_named : Named ops nums e
-    antecedent_named = delayed_names.0
-
-    pub consequent_named : Named ops nums e'
-    consequent_named = delayed_names.1
-
   module _ (b : ℕ) (e e' : SignalExpr) (r : AnchorRange) (d : Steppable ops nums (Obligation b e e' r) st s) where
     owed_names : Named ops nums e × Named ops nums e' × WellKept b (obligation_of st)
     unfolding CheckShaped
@@ -257,104 +188,6 @@ module _ (ops nums : List ℕ) (mem : Memory) (k s w : ℕ) where
           (λ i. record { held = set mem.held k (v.is p (first_eq h) g.0 i); remaining = remaining_kept mem k i; failed = set mem.failed k (m i); culprits = culprits_kept mem k i }, m)
       go (obligation b p p' q) h g = let z : ◌≡◌ {A = ℕ} 0 1 = cc in absurd (omega arith)
 
-  -- ---- a window
-  module _ (b : ℕ) (e : SignalExpr) (r : AnchorRange) where
-    abbrev owed : ObligationState
-    owed = obligation_of (get mem k)
-
-    abbrev due_by : Signal → Bool
-    due_by x = contains_of r s && truth x w
-
-    pub window_kept : (get mem k).held ≡ true → Opened ops nums b e r mem k s w mem true
-    window_kept h = record {
-      is = λ x u g. (
-        sym (ap (λ (y : Bool). put mem k (entry_of (opened y (due_by x) b s owed))) h ∙ put_get mem k),
-        sym (ap (λ (y : Bool). (opened y (due_by x) b s owed).pending) h ∙ h),
-      );
-    }
-
-    module _ (d : Bool) (f : TriggerDue ops nums e r s w d) (h : (get mem k).held ≡ false) where
-      pub window_none : d ≡ false → Opened ops nums b e r mem k s w mem false
-      window_none q = record {
-        is = λ x u g.
-            let n : due_by x ≡ false = sym (f.is x u g) ∙ q in (
-              sym (ap₂ (λ (y z : Bool). put mem k (entry_of (opened y z b s owed))) h n ∙ put_get mem k),
-              sym (ap₂ (λ (y z : Bool). (opened y z b s owed).pending) h n ∙ h),
-            );
-      }
-
-      pub window_new : s < 9223372036854775808 → d ≡ true
-          → Opened ops nums b e r mem k s w (entries (set mem.held k true) (set mem.remaining k b) mem.failed (set mem.culprits k (to_z w64 s))) true
-      window_new l q = record {
-        is = λ x u g.
-            let n : due_by x ≡ true = sym (f.is x u g) ∙ q in (
-              (λ i. record { held = set mem.held k true; remaining = set mem.remaining k b; failed = failed_kept mem k _ refl i; culprits = set mem.culprits k (to_z_pos w64 l i) })
-                  ∙ sym (ap₂ (λ (y z : Bool). put mem k (entry_of (opened y z b s owed))) h n),
-              sym (ap₂ (λ (y z : Bool). (opened y z b s owed).pending) h n),
-            );
-      }
-
-  -- ---- bound 0
-  module _ (e e' : SignalExpr) (r : AnchorRange) (d : Bool) (f : TriggerDue ops nums e r s w d) (c : AtOnce ops nums e e' mem k s) where
-    abbrev once : Signal → Signal → ObligationState
-    once x y = at_once (contains_of r s && truth x w) (truth y w) s (obligation_of (get mem k))
-
-    pub zero_quiet : d ≡ false → DoneAtOnce ops nums e e' r mem k s w mem false
-    zero_quiet q = record {
-      is = λ x y u g u' g'.
-          let n : (contains_of r s && truth x w) ≡ false = sym (f.is x u g) ∙ q in (
-            sym (ap (λ (z : Bool). put mem k (entry_of (at_once z (truth y w) s (obligation_of (get mem k))))) n ∙ put_get mem k),
-            sym (ap (λ (z : Bool). (at_once z (truth y w) s (obligation_of (get mem k))).failed) n ∙ c.unfailed),
-          );
-    }
-
-    module _ (q : d ≡ true) (t : Bool) (v : SignalSays ops nums e' w t) where
-      pub zero_met : t ≡ true → DoneAtOnce ops nums e e' r mem k s w mem false
-      zero_met z = record {
-        is = λ x y u g u' g'.
-            let n : (contains_of r s && truth x w) ≡ true = sym (f.is x u g) ∙ q in
-            let m : truth y w ≡ true = sym (v.is y u' g') ∙ z in (
-              sym (ap₂ (λ (a o : Bool). put mem k (entry_of (at_once a o s (obligation_of (get mem k))))) n m ∙ put_get mem k),
-              sym (ap₂ (λ (a o : Bool). (at_once a o s (obligation_of (get mem k))).failed) n m ∙ c.unfailed),
-            );
-      }
-
-      pub zero_missed : t ≡ false → DoneAtOnce ops nums e e' r mem k s w (entries mem.held mem.remaining (set mem.failed k true) (set mem.culprits k (to_z w64 s))) true
-      zero_missed z = record {
-        is = λ x y u g u' g'.
-            let n : (contains_of r s && truth x w) ≡ true = sym (f.is x u g) ∙ q in
-            let m : truth y w ≡ false = sym (v.is y u' g') ∙ z in (
-              (λ i. record { held = held_kept mem k _ refl i; remaining = remaining_kept mem k i; failed = set mem.failed k true; culprits = set mem.culprits k (to_z_pos w64 c.below i) })
-                  ∙ sym (ap₂ (λ (a o : Bool). put mem k (entry_of (at_once a o s (obligation_of (get mem k))))) n m),
-              sym (ap₂ (λ (a o : Bool). (at_once a o s (obligation_of (get mem k))).failed) n m),
-            );
-      }
-
--- ---- an open window
-module _ (ops nums : List ℕ) (e : SignalExpr) (mem : Memory) (k w : ℕ) (c : Tickable ops nums e mem k) (t : Bool) (v : SignalSays ops nums e w t) where
-  pub tick_answered : t ≡ true → Ticked ops nums e mem k w (entries (set mem.held k false) mem.remaining mem.failed mem.culprits) false
-  tick_answered z = record {
-    is = λ x u g.
-        let n : truth x w ≡ true = sym (v.is x u g) ∙ z in (
-          (λ i. record { held = set mem.held k false; remaining = remaining_kept mem k i; failed = failed_kept mem k _ refl i; culprits = culprits_kept mem k i })
-              ∙ sym (ap (λ (y : Bool). put mem k (entry_of (ticked true y (obligation_of (get mem k))))) n),
-          sym (ap (λ (y : Bool). (ticked true y (obligation_of (get mem k))).failed) n ∙ c.unfailed),
-        );
-  }
-
-  pub tick_less : t ≡ false
-      → Ticked ops nums e mem k w
-      (entries mem.held (set mem.remaining k ((get mem k).remaining - 1)) (set mem.failed k (eqb ((get mem k).remaining - 1) 0)) mem.culprits)
-      (eqb ((get mem k).remaining - 1) 0)
-  tick_less z = record {
-    is = λ x u g.
-        let n : truth x w ≡ false = sym (v.is x u g) ∙ z in (
-          (λ i. record { held = held_kept mem k _ c.is_open i; remaining = set mem.remaining k ((get mem k).remaining - 1); failed = set mem.failed k (eqb ((get mem k).remaining - 1) 0); culprits = culprits_kept mem k i })
-              ∙ sym (ap (λ (y : Bool). put mem k (entry_of (ticked true y (obligation_of (get mem k))))) n),
-          sym (ap (λ (y : Bool). (ticked true y (obligation_of (get mem k))).failed) n),
-        );
-  }
-
 -- ---- an obligation
 put_put : (mem : Memory) (k : ℕ) (x y : MonState) → put (put mem k x) k y ≡ put mem k y
 put_put mem k x y = λ j. record {
@@ -427,18 +260,6 @@ module _ (ops nums : List ℕ) (b : ℕ) (e e' : SignalExpr) (r : AnchorRange) (
   )
 
   module _ (c : Checkable ops nums (Obligation b e e' r) mem k s) (f : (get mem k).failed ≡ false) where
-    pub owed_at_once : AtOnce ops nums e e' mem k s
-    owed_at_once = record {
-      inside = c.inside;
-      trigger = trigger_named ops nums (get mem k) s b e e' r c.steps;
-      body = body_named ops nums (get mem k) s b e e' r c.steps;
-      unfailed = f;
-      below = c.steps.below;
-    }
-
-    pub owed_openable : Openable ops nums e mem k s
-    owed_openable = record { inside = c.inside; names = owed_at_once.trigger; below = c.steps.below }
-
     pub owed_zero : (mem' : Memory) (now : Bool) → b ≡ 0 → DoneAtOnce ops nums e e' r mem k s w mem' now → CheckStepped ops nums (Obligation b e e' r) mem k s w mem' now
     owed_zero mem' now q d = owed_by mem' now λ x y u g u' g'.
         let same : obligation_step b s (due_of x) (truth y w) owes ≡ at_once (due_of x) (truth y w) s owes = unfailed_step_lem b s (due_of x) (truth y w) owes f ∙ at_zero b s (due_of x) (truth y w) owes q in
@@ -490,25 +311,3 @@ module _ (ops nums : List ℕ) (b : ℕ) (e e' : SignalExpr) (r : AnchorRange) (
                   ∙ ap (λ (o : ObligationState). put mem k (entry_of o)) same,
               l' ∙ ap (λ (o : ObligationState). o.failed) same,
             )
-
--- ---- any check
-module _ (ops nums : List ℕ) (n : MonNode) (mem : Memory) (k s : ℕ) where
-  pub checkable_as : (m : MonNode) → Checkable ops nums n mem k s → n ≡ m → Checkable ops nums m mem k s
-  checkable_as m d e = subst (λ (x : MonNode). Checkable ops nums x mem k s) e d
-
-  pub checked_at : (st : MonState) → Checkable ops nums n mem k s → st ≡ get mem k → Steppable ops nums n st s
-  checked_at st d e = subst (λ (x : MonState). Steppable ops nums n x s) (sym e) d.steps
-
-  pub stepped_as : (m : MonNode) (w : ℕ) (mem' : Memory) (o : Bool) → n ≡ m → CheckStepped ops nums m mem k s w mem' o → CheckStepped ops nums n mem k s w mem' o
-  stepped_as m w mem' o e d = subst (λ (x : MonNode). CheckStepped ops nums x mem k s w mem' o) (sym e) d
-
-  not_joined : (c : Check) → (node_of c ≡ AndNode → ⊥) × (node_of c ≡ OrNode → ⊥)
-  not_joined (range_check p q) = ((λ h. let z : ◌≡◌ {A = ℕ} 0 1 = cc in omega arith), (λ h. let z : ◌≡◌ {A = ℕ} 0 1 = cc in omega arith))
-  not_joined (delayed_check p p' q) = ((λ h. let z : ◌≡◌ {A = ℕ} 0 1 = cc in omega arith), (λ h. let z : ◌≡◌ {A = ℕ} 0 1 = cc in omega arith))
-  not_joined (obligation b p p' q) = ((λ h. let z : ◌≡◌ {A = ℕ} 0 1 = cc in omega arith), (λ h. let z : ◌≡◌ {A = ℕ} 0 1 = cc in omega arith))
-
-  pub no_and : (w : ℕ) (mem' : Memory) (o : Bool) → n ≡ AndNode → CheckStepped ops nums n mem k s w mem' o
-  no_and w mem' o e = record { is = λ c h g. absurd ((not_joined c).0 (h ∙ e)) }
-
-  pub no_or : (w : ℕ) (mem' : Memory) (o : Bool) → n ≡ OrNode → CheckStepped ops nums n mem k s w mem' o
-  no_or w mem' o e = record { is = λ c h g. absurd ((not_joined c).1 (h ∙ e)) }

@@ -1,5 +1,3 @@
--- Laws of a node's step.
+-- Laws of a check.s step and of entries.
 pub mod Entries
-pub mod Culprits
 pub mod Checks
-pub mod Joining

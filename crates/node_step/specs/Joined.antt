@@ -1,22 +1,21 @@
 -- A joined node's own step, after its parts have stepped.
 use Rattle.std.specs.Prelude.{Bool, true, false, ◌&&◌, ◌||◌, ◌≡◌, ℕ, ◌+◌, ◌<◌, ℤ}
+use Rattle.std.specs.Prelude.{None, Option, Some}
 use Rattle.std.proofs.Math.Bool as bool
 use Rattle.terms.specs.Choice.{pick}
 use Rattle.monitor.specs.declared.node.MonNode.{MonNode}
 use Rattle.monitor.specs.declared.node.MonNode.TheVariants.{RangeCheck, DelayedCheck, Obligation, And as AndNode, Or as OrNode}
 use Rattle.meaning.specs.State.{min_trigger_at}
 use Rattle.node_step.specs.declared.state.MonState.{MonState}
-use Rattle.node_step.specs.declared.joined.Parts.{Parts}
-use Rattle.node_step.specs.declared.joined.Parts.TheVariants.{Single, Joined}
 use Rattle.node_step.specs.Memory.{Memory, get, put, Inside}
 
--- how a node's parts are joined: `and` fails with any part, `or` with all of them
-abbrev pub parts_of : MonNode → Parts
-parts_of (RangeCheck s r) = Single
-parts_of (DelayedCheck s t r) = Single
-parts_of (Obligation b s t r) = Single
-parts_of AndNode = Joined true
-parts_of OrNode = Joined false
+-- how a node's parts are joined, if it has parts: `and` fails with any of them, `or` with all of them
+abbrev pub parts_of : MonNode → Option Bool
+parts_of (RangeCheck s r) = None
+parts_of (DelayedCheck s t r) = None
+parts_of (Obligation b s t r) = None
+parts_of AndNode = Some true
+parts_of OrNode = Some false
 
 abbrev pub joined_now : Bool → Bool → Bool → Bool
 joined_now true l r = l || r

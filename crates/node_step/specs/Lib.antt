@@ -2,3 +2,4 @@
 pub mod Memory
 pub mod Check
 pub mod Joined
+pub mod Lists

@@ -1,37 +1,22 @@
 // A joined node's own step, after its parts have stepped: whether it is failing now, and its entry.
 ghost use Rattle.std.specs.Prelude.{◌≡◌, true, false, ◌+◌, ◌<◌};
 ghost use Rattle.meaning.specs.State.{least, offered, min_trigger_at};
-ghost use Rattle.node_step.specs.Memory.{entries};
+ghost use Rattle.node_step.specs.Lists.{memory_of, SameLists};
 ghost use Rattle.node_step.specs.Joined.{parts_of, joined_now, joined_of, PairReady, Finished};
 
-use crate::state::{MonState, load, store};
+use crate::state::{Memory, MonState};
 use monitor::node::MonNode;
 
-// How a node's parts are joined: not at all; or it fails with any of them, or with all of them.
-#[derive(Clone, Copy)]
-pub enum Parts {
-    Single,
-    Joined(bool),
-}
-
-pub fn parts_of(node: MonNode) -> Parts
+// How a node's parts are joined, if it has parts: it fails with any of them, or with all of them.
+pub fn parts_of(node: MonNode) -> Option<bool>
     ensures { result ≡ parts_of node }
 {
     match node {
-        MonNode::RangeCheck { expr: _, range: _ } => Parts::Single,
-        MonNode::DelayedCheck {
-            antecedent: _,
-            consequent: _,
-            range: _,
-        } => Parts::Single,
-        MonNode::Obligation {
-            bound: _,
-            trigger: _,
-            body: _,
-            range: _,
-        } => Parts::Single,
-        MonNode::And => Parts::Joined(true),
-        MonNode::Or => Parts::Joined(false),
+        MonNode::RangeCheck { .. } | MonNode::DelayedCheck { .. } | MonNode::Obligation { .. } => {
+            None
+        }
+        MonNode::And => Some(true),
+        MonNode::Or => Some(false),
     }
 }
 
@@ -39,15 +24,9 @@ pub fn joined_now(any: bool, left: bool, right: bool) -> bool
     ensures { result ≡ joined_now any left right }
 {
     if any {
-        if left {
-            return true;
-        }
-        return right;
+        return left || right;
     }
-    if left {
-        return right;
-    }
-    false
+    left && right
 }
 
 // The culprit that a part offers: its own while it is failing now, else none.
@@ -103,34 +82,24 @@ fn joined(
     if failing {
         let culprit = min_trigger_at(left, a.culprit, right, b.culprit);
         return MonState {
-            held: st.held,
-            remaining: st.remaining,
             failed: true,
             culprit,
+            ..st
         };
     }
     st
 }
 
 // Steps the entry of joined node k, whose right part begins at `mid`.
-pub fn finish(
-    held: &mut [bool],
-    remaining: &mut [u64],
-    failed: &mut [bool],
-    culprits: &mut [i64],
-    k: usize,
-    mid: usize,
-    failing: bool,
-    left: bool,
-    right: bool,
-)
-    requires { PairReady (entries held.old remaining.old failed.old culprits.old) k mid }
-    ensures { Finished (entries held.old remaining.old failed.old culprits.old) k mid failing left right
-        (entries held.new remaining.new failed.new culprits.new) }
+pub fn finish(memory: &mut Memory, k: usize, mid: usize, failing: bool, left: bool, right: bool)
+    requires { PairReady (memory_of memory.old) k mid }
+    ensures stepped { Finished (memory_of memory.old) k mid failing left right
+        (memory_of memory.new) }
+    ensures same { SameLists memory.old memory.new }
 {
-    let st = load(held, remaining, failed, culprits, k);
-    let a = load(held, remaining, failed, culprits, k + 1);
-    let b = load(held, remaining, failed, culprits, mid);
+    let st = memory.load(k);
+    let a = memory.load(k + 1);
+    let b = memory.load(mid);
     let next = joined(st, failing, left, a, right, b);
-    store(held, remaining, failed, culprits, k, next);
+    memory.store(k, next);
 }

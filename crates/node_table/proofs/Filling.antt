@@ -2,24 +2,18 @@
 use mathlib.Core.Bool.{Bool, true, false}
 use mathlib.Core.List.{List, [], ◌∷◌, map, head-eq_of_cons-eq, tail-eq_of_cons-eq}
 use mathlib.Core.Path.{◌≡◌, refl, sym, ◌∙◌, ap, subst}
-use Prim.Native.Nat.{ℕ, zero, suc, ◌+◌, ◌-◌, ◌≤◌, ◌<◌}
+use Prim.Native.Nat.{ℕ, zero, suc, ◌+◌, ◌≤◌, ◌<◌}
 use native.Mathlib.Nat.{ne_of_lt, not-suc-le-zero, le_of_suc-le-suc}
 use native.Mathlib.Numerals.{add-one}
 use native.Mathlib.Omega.{arith}
-use borrow.Author.Tests.{lt-ltb, le-ltb, lt-leb, le-leb, leb-true, ltb-true, ltb-false}
+use borrow.Author.Tests.{le-leb, leb-true, ltb-true, ltb-false}
 use lib.Dec.{ltb, leb}
-use lib.ListN.{length, get_or, set, take, length-map, length-set, get_or-map}
-use lib.Seq.{length-take-le, get_or-set_same, get_or-set_other}
+use lib.ListN.{length, get_or, set, length-map, length-set, get_or-map}
+use lib.Seq.{get_or-set_same, get_or-set_other}
 use Rattle.node_table.specs.Node.{blank, struct_at, ops_of, nums_of}
 use Rattle.terms.specs.Choice.{pick}
 use Rattle.node_table.specs.Columns.{capped, end_of, HoldsColumn, front}
 use Rattle.node_table.specs.declared.FormulaNode.{FormulaNode}
-
-pub capped_few : (n : ℕ) → n < 1024 → n ≡ capped n
-capped_few n h = rw (lt-ltb n 1024 h)
-
-pub capped_many : (n : ℕ) → 1024 ≤ n → 1024 ≡ capped n
-capped_many n h = rw (le-ltb n 1024 h)
 
 cases : (n : ℕ) (t : Bool) → ltb n 1024 ≡ t → (pick t n 1024 ≤ 1024) × (pick t n 1024 ≤ n)
 cases n true e = (omega (arith, ltb-true n 1024 e), omega arith)
@@ -32,18 +26,6 @@ pub capped_lent : (n : ℕ) → capped n ≤ n
 capped_lent n = (cases n (ltb n 1024) refl).1
 
 -- ---- the places of a rule that are read
-end_refuses : (first count lent : ℕ) → lent < first + count → first ≡ end_of lent first count
-end_refuses first count lent h = rw (lt-leb (first + count) lent h)
-
-pub end_past : (lent first count : ℕ) → lent < first → first ≡ end_of lent first count
-end_past lent first count h = end_refuses first count lent (omega arith)
-
-pub end_short : (lent first count : ℕ) → first ≤ lent → lent - first < count → first ≡ end_of lent first count
-end_short lent first count h k = end_refuses first count lent (omega arith)
-
-pub end_lent : (lent first count : ℕ) → first ≤ lent → count ≤ lent - first → first + count ≡ end_of lent first count
-end_lent lent first count h k = rw (le-leb (first + count) lent (omega arith))
-
 -- a place that is read is lent
 pub end_inside : (lent first count i : ℕ) → first ≤ i → i < end_of lent first count → i < lent
 end_inside lent first count i from h = go (leb (first + count) lent) refl h
@@ -73,10 +55,6 @@ holds_next f z ys xs from i le lx h k above below = go (ltb k i) refl
         ∙ sym (get_or-map f ys i blank)
         ∙ ap (λ (d : ℕ). get_or (map f ys) i d) z
         ∙ ap (λ (j : ℕ). get_or (map f ys) j 0) (sym same)
-
--- a front of n entries has n entries
-pub front_length : (n : ℕ) (l : List ℕ) → n ≤ length l → n ≡ length (take n l)
-front_length n l h = sym (length-take-le n l h)
 
 -- ---- columns in front of a table
 map_set : {A : Type 0} (f : A → ℕ) (l : List A) (i : ℕ) (a : A) → map f (set l i a) ≡ set (map f l) i (f a)

@@ -3,10 +3,11 @@
 // `table_read`, `table_step`) hand plain columns on to the core.
 #![tactic(auto)]
 
-ghost use Rattle.std.specs.Prelude.{◌≡◌, ◌+◌, ◌≤◌, ◌<◌, length, set};
+ghost use Rattle.std.specs.Prelude.{◌≡◌, ◌+◌, ◌≤◌, ◌<◌, length, set, take};
 ghost use Rattle.node_table.specs.Node.{struct_at};
 ghost use Rattle.node_table.specs.Columns.{capped, end_of, Unpacked, Inside, Packed};
 
+use formula::table::FormulaTable;
 use terms::limit::BOOK_NODES;
 
 // A node of a formula table: its operation and its number.
@@ -24,7 +25,8 @@ pub(crate) fn node_at(table: &[FormulaNode], i: usize) -> FormulaNode
     table[i]
 }
 
-// A table in two columns: how many nodes there are, and the operations and numbers of those that were read or are to be stored.
+// A table in two columns: how many nodes there are, and the operations and numbers of those that were read or are to be stored. Memory is fixed, so the
+// count stands beside arrays of the largest size.
 #[derive(Clone, Copy)]
 pub struct Columns {
     pub count: usize,
@@ -32,19 +34,42 @@ pub struct Columns {
     pub nums: [u64; BOOK_NODES],
 }
 
+impl Columns {
+    // The operations that count.
+    pub fn ops(&self) -> &[u8]
+        requires { Inside self.now }
+        ensures { result.now ≡ take self.now.count self.now.ops }
+    {
+        &self.ops[..self.count]
+    }
+
+    // The numbers that count.
+    pub fn nums(&self) -> &[u64]
+        requires { Inside self.now }
+        ensures { result.now ≡ take self.now.count self.now.nums }
+    {
+        &self.nums[..self.count]
+    }
+
+    // The table that they are.
+    pub fn table(&self) -> FormulaTable
+        requires { Inside self.now }
+        ensures ops { result.ops.now ≡ take self.now.count self.now.ops }
+        ensures nums { result.nums.now ≡ take self.now.count self.now.nums }
+    {
+        FormulaTable {
+            ops: self.ops(),
+            nums: self.nums(),
+        }
+    }
+}
+
 // Columns for the first 1,024 of `len` nodes.
 fn columns_for(len: usize) -> Columns
     ensures { result.count ≡ capped len }
 {
-    if len < BOOK_NODES {
-        return Columns {
-            count: len,
-            ops: [0; BOOK_NODES],
-            nums: [0; BOOK_NODES],
-        };
-    }
     Columns {
-        count: BOOK_NODES,
+        count: len.min(BOOK_NODES),
         ops: [0; BOOK_NODES],
         nums: [0; BOOK_NODES],
     }
@@ -67,22 +92,13 @@ fn end_of(lent: usize, first: usize, count: usize) -> usize
 pub fn unpack(table: &[FormulaNode], first: usize, count: usize) -> Columns
     ensures { Unpacked table.now first count result }
 {
-    let c = columns_for(table.len());
-    let end = end_of(c.count, first, count);
-    let mut ops = c.ops;
-    let mut nums = c.nums;
-    let mut i = first;
-    while i < end {
+    let mut c = columns_for(table.len());
+    for i in first..end_of(c.count, first, count) {
         let x = node_at(table, i);
-        ops[i] = x.op;
-        nums[i] = x.num;
-        i += 1;
+        c.ops[i] = x.op;
+        c.nums[i] = x.num;
     }
-    Columns {
-        count: c.count,
-        ops,
-        nums,
-    }
+    c
 }
 
 // Stores a node at i.
@@ -98,15 +114,11 @@ pub fn pack(table: &mut [FormulaNode], c: Columns)
     requires { Inside c × (c.count ≤ length table.old) }
     ensures { Packed c table.old table.new }
 {
-    let ops = c.ops;
-    let nums = c.nums;
-    let mut i = 0;
-    while i < c.count {
+    for i in 0..c.count {
         let x = FormulaNode {
-            op: ops[i],
-            num: nums[i],
+            op: c.ops[i],
+            num: c.nums[i],
         };
         put_node(table, i, x);
-        i += 1;
     }
 }

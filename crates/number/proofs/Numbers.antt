@@ -8,15 +8,12 @@ use native.Mathlib.Omega.{arith}
 use native.Mathlib.Numerals.{add-one}
 use native.Mathlib.Nat.{pow-succ', pow-zero, mul-one, add-zero, add_assoc, mul_assoc, add-mul, le-div_iff_mul-le, pow-le-pow_right, mul-le-mul_left}
 use borrow.Author.Tests.{ltb-true, ltb-false, lt-ltb, le-ltb, eq-eqb, ne_eqb}
-use mir.Syntax.{w64}
-use mir.Val.{Fits}
 use lib.Dec.{ltb, eqb}
 use lib.ListN.{length, get_or, drop, drop_of_length-le}
 use lib.Seq.{drop-cons}
 use Rattle.terms.specs.Choice.{pick}
 use Rattle.number.specs.Number.{digit_of, below, places, value_in, plain, decimal_of, hex_of, Digit}
-use Rattle.number.specs.declared.Number.{Number}
-use Rattle.number.specs.declared.Number.TheVariants.{Value, Wrong}
+use Rattle.std.specs.Prelude.{None, Option, Some}
 
 pub below_or : (a b : ℕ) → (a < b) ⊎ (b ≤ a)
 below_or a b = go (ltb a b) refl
@@ -26,10 +23,10 @@ below_or a b = go (ltb a b) refl
     go false e = inr (ltb-false a b e)
 
 -- ---- from the left
-unfoldable pub go_on : ℕ → ℕ → List ℕ → Number
-go_on base acc [] = Value acc
+unfoldable pub go_on : ℕ → ℕ → List ℕ → Option ℕ
+go_on base acc [] = Some acc
 go_on base acc (b ∷ r) =
-    pick (ltb (digit_of b) base && ltb (acc * base + digit_of b) (2 ^ 64)) (go_on base (acc * base + digit_of b) r) Wrong
+    pick (ltb (digit_of b) base && ltb (acc * base + digit_of b) (2 ^ 64)) (go_on base (acc * base + digit_of b) r) None
 
 full : ℕ → ℕ → List ℕ → ℕ
 full base acc l = acc * base ^ length l + places base l
@@ -51,8 +48,8 @@ full_above base acc l h =
     omega arith
 
 -- what the digits still to come make of it
-judged : ℕ → ℕ → List ℕ → Number
-judged base acc l = pick (below base l && ltb (full base acc l) (2 ^ 64)) (Value (full base acc l)) Wrong
+judged : ℕ → ℕ → List ℕ → Option ℕ
+judged base acc l = pick (below base l && ltb (full base acc l) (2 ^ 64)) (Some (full base acc l)) None
 
 and_false : (b : Bool) → (b && false) ≡ false
 and_false true = refl
@@ -83,18 +80,18 @@ module _ (base : ℕ) (s : List ℕ) (acc i : ℕ) (inside : i < length s) where
   unfolding go_on
   turn h k = rw (add-one, drop-cons s i 0 inside, lt-ltb (digit_of (get_or s i 0)) base h, lt-ltb (acc * base + digit_of (get_or s i 0)) (2 ^ 64) k) refl
 
-  pub no_digit : base ≤ digit_of (get_or s i 0) → go_on base acc (drop i s) ≡ Wrong
+  pub no_digit : base ≤ digit_of (get_or s i 0) → go_on base acc (drop i s) ≡ None
   unfolding go_on
   no_digit h = rw (drop-cons s i 0 inside, le-ltb _ _ h) refl
 
-  pub too_large : 2 ^ 64 ≤ acc * base + digit_of (get_or s i 0) → go_on base acc (drop i s) ≡ Wrong
+  pub too_large : 2 ^ 64 ≤ acc * base + digit_of (get_or s i 0) → go_on base acc (drop i s) ≡ None
   unfolding go_on
   too_large k = ⊎_elim
       (λ h. rw (drop-cons s i 0 inside, lt-ltb (digit_of (get_or s i 0)) base h, le-ltb (acc * base + digit_of (get_or s i 0)) (2 ^ 64) k) refl)
       (λ h. no_digit h)
       (below_or (digit_of (get_or s i 0)) base)
 
-pub ends : (base : ℕ) (s : List ℕ) (acc i : ℕ) → length s ≤ i → go_on base acc (drop i s) ≡ Value acc
+pub ends : (base : ℕ) (s : List ℕ) (acc i : ℕ) → length s ≤ i → go_on base acc (drop i s) ≡ Some acc
 unfolding go_on
 ends base s acc i h = rw (drop_of_length-le s h) refl
 
@@ -117,14 +114,14 @@ module _ (base : ℕ) (s : List ℕ) where
   pub sofar_first : 1 ≤ base → Sofar base s 0 0
   sofar_first h = record { inside = omega arith; same = value_goes base s h }
 
-  pub sofar_value : (acc i : ℕ) → Sofar base s acc i → length s ≤ i → Value acc ≡ value_in base s
+  pub sofar_value : (acc i : ℕ) → Sofar base s acc i → length s ≤ i → Some acc ≡ value_in base s
   sofar_value acc i v h = sym (v.same ∙ ends base s acc i h)
 
   module _ (acc i d : ℕ) (v : Sofar base s acc i) (inside : i < length s) (is : d ≡ digit_of (get_or s i 0)) where
-    pub sofar_digit : base ≤ d → Wrong ≡ value_in base s
+    pub sofar_digit : base ≤ d → None ≡ value_in base s
     sofar_digit h = sym (v.same ∙ no_digit base s acc i inside (subst (λ (k : ℕ). base ≤ k) is h))
 
-    pub sofar_large : 1 ≤ base → d ≤ 16 → (18446744073709551615 - d) / base < acc → Wrong ≡ value_in base s
+    pub sofar_large : 1 ≤ base → d ≤ 16 → (18446744073709551615 - d) / base < acc → None ≡ value_in base s
     sofar_large b k t = sym (v.same ∙ too_large base s acc i inside (subst (λ (k : ℕ). 2 ^ 64 ≤ acc * base + k) is (past_next acc base d b k t)))
 
     pub sofar_next : 1 ≤ base → d ≤ 16 → d < base → acc ≤ (18446744073709551615 - d) / base → Sofar base s (acc * base + d) (i + 1)
@@ -132,12 +129,6 @@ module _ (base : ℕ) (s : List ℕ) where
       inside = omega arith;
       same = v.same ∙ turn base s acc i inside (subst (λ (k : ℕ). k < base) is h) (subst (λ (k : ℕ). acc * base + k < 2 ^ 64) is (fits_next acc base d b k t)) ∙ ap (λ (k : ℕ). go_on base (acc * base + k) (drop (i + 1) s)) (sym is);
     }
-
-pub mul_next : (acc base d : ℕ) → 1 ≤ base → d ≤ 16 → acc ≤ (18446744073709551615 - d) / base → Fits w64 (acc * base)
-mul_next acc base d h k t = record { fits = omega (arith, fits_next acc base d h k t) }
-
-pub add_next : (acc base d : ℕ) → 1 ≤ base → d ≤ 16 → acc ≤ (18446744073709551615 - d) / base → Fits w64 (acc * base + d)
-add_next acc base d h k t = record { fits = fits_next acc base d h k t }
 
 -- ---- sixteen digits fit
 places_below : (base : ℕ) (l : List ℕ) → below base l ≡ true → places base l + 1 ≤ base ^ length l
@@ -193,19 +184,19 @@ module _ (l : List ℕ) where
   pub plain_more : (length l ≡ 0 → ⊥) → (length l ≡ 1 → ⊥) → (get_or l 0 0 ≡ 48 → ⊥) → true ≡ plain l
   plain_more h k e = sym (more h k ∙ ap not (ne_eqb _ _ e))
 
-  pub decimal_plain : (t : Bool) (r : Number) → t ≡ plain l → t ≡ true → r ≡ value_in 10 l → r ≡ decimal_of l
+  pub decimal_plain : (t : Bool) (r : Option ℕ) → t ≡ plain l → t ≡ true → r ≡ value_in 10 l → r ≡ decimal_of l
   unfolding decimal_of
   decimal_plain t r p q e = rw (← p, q) e
 
-  pub decimal_wrong : (t : Bool) → t ≡ plain l → t ≡ false → Wrong ≡ decimal_of l
+  pub decimal_wrong : (t : Bool) → t ≡ plain l → t ≡ false → None ≡ decimal_of l
   unfolding decimal_of
   decimal_wrong t p q = rw (← p, q) refl
 
-  pub hex_value : (r : Number) → length l ≡ 16 → r ≡ value_in 16 l → r ≡ hex_of l
+  pub hex_value : (r : Option ℕ) → length l ≡ 16 → r ≡ value_in 16 l → r ≡ hex_of l
   unfolding hex_of
   hex_value r p e = rw (eq-eqb _ _ p) e
 
-  pub hex_wrong : (length l ≡ 16 → ⊥) → Wrong ≡ hex_of l
+  pub hex_wrong : (length l ≡ 16 → ⊥) → None ≡ hex_of l
   unfolding hex_of
   hex_wrong p = rw (ne_eqb _ _ p) refl
 

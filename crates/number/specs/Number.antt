@@ -4,8 +4,7 @@
 -- `hex_fits` (proofs/Numbers.antt): sixteen hexadecimal digits always fit.
 use Rattle.std.specs.Prelude.{◌≡◌, Bool, true, false, ◌&&◌, not, List, [], ◌∷◌, ℕ, ◌+◌, ◌-◌, ◌*◌, ◌^◌, ◌≤◌, ltb, eqb, length}
 use Rattle.terms.specs.Choice.{pick}
-use Rattle.number.specs.declared.Number.{Number}
-use Rattle.number.specs.declared.Number.TheVariants.{Value, Wrong}
+use Rattle.std.specs.Prelude.{None, Option, Some}
 
 -- what a byte is worth as a digit: `0` to `9`, `a` to `f`; 16 where it is none
 unfoldable pub digit_of : ℕ → ℕ
@@ -27,8 +26,8 @@ places base [] = 0
 places base (b ∷ r) = digit_of b * base ^ length r + places base r
 
 -- the value, where the bytes are digits of the base and it fits
-unfoldable pub value_in : ℕ → List ℕ → Number
-value_in base l = pick (below base l && ltb (places base l) (2 ^ 64)) (Value (places base l)) Wrong
+unfoldable pub value_in : ℕ → List ℕ → Option ℕ
+value_in base l = pick (below base l && ltb (places base l) (2 ^ 64)) (Some (places base l)) None
 
 -- at least one byte, and no zero in front of others
 unfoldable pub plain : List ℕ → Bool
@@ -36,8 +35,8 @@ plain [] = false
 plain (b ∷ []) = true
 plain (b ∷ c ∷ r) = not (eqb b 48)
 
-unfoldable pub decimal_of : List ℕ → Number
-decimal_of l = pick (plain l) (value_in 10 l) Wrong
+unfoldable pub decimal_of : List ℕ → Option ℕ
+decimal_of l = pick (plain l) (value_in 10 l) None
 
-unfoldable pub hex_of : List ℕ → Number
-hex_of l = pick (eqb (length l) 16) (value_in 16 l) Wrong
+unfoldable pub hex_of : List ℕ → Option ℕ
+hex_of l = pick (eqb (length l) 16) (value_in 16 l) None

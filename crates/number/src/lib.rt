@@ -4,19 +4,6 @@
 ghost use Rattle.std.specs.Prelude.{◌≡◌, ◌≤◌, ◌<◌};
 ghost use Rattle.number.specs.Number.{Digit, plain, value_in, decimal_of, hex_of};
 
-// A number's value, or that the bytes are none that fits.
-#[derive(Clone, Copy)]
-pub enum Number {
-    Value(u64),
-    Wrong,
-}
-
-fn wide(b: u8) -> u64
-    ensures { result ≡ b }
-{
-    b as u64
-}
-
 // What a byte is worth as a digit: 0 to 15, or 16 where it is none.
 pub fn digit(b: u8) -> u64
     ensures { Digit b result }
@@ -25,36 +12,34 @@ pub fn digit(b: u8) -> u64
         return 16;
     }
     if b < 58 {
-        return wide(b) - 48;
+        return u64::from(b) - 48;
     }
     if b < 97 {
         return 16;
     }
     if b < 103 {
-        return wide(b) - 87;
+        return u64::from(b) - 87;
     }
     16
 }
 
-// The value of digits in a base.
-fn value(s: &[u8], base: u64) -> Number
+// The value of digits in a base, if they are digits of it and it fits.
+fn value(s: &[u8], base: u64) -> Option<u64>
     requires { (1 ≤ base) × (base ≤ 16) }
     ensures { result ≡ value_in base s.now }
 {
     let mut acc: u64 = 0;
-    let mut i: usize = 0;
-    while i < s.len() {
-        let d = digit(s[i]);
+    for b in s {
+        let d = digit(*b);
         if base <= d {
-            return Number::Wrong;
+            return None;
         }
         if (18446744073709551615 - d) / base < acc {
-            return Number::Wrong;
+            return None;
         }
         acc = acc * base + d;
-        i += 1;
     }
-    Number::Value(acc)
+    Some(acc)
 }
 
 // Whether the bytes are not empty and have no leading zero.
@@ -74,21 +59,21 @@ fn is_plain(s: &[u8]) -> bool
 }
 
 // A decimal number.
-pub fn decimal(s: &[u8]) -> Number
+pub fn decimal(s: &[u8]) -> Option<u64>
     ensures { result ≡ decimal_of s.now }
 {
     if is_plain(s) {
         return value(s, 10);
     }
-    Number::Wrong
+    None
 }
 
 // Sixteen hexadecimal digits.
-pub fn hex(s: &[u8]) -> Number
+pub fn hex(s: &[u8]) -> Option<u64>
     ensures { result ≡ hex_of s.now }
 {
     if s.len() == 16 {
         return value(s, 16);
     }
-    Number::Wrong
+    None
 }

@@ -1,5 +1,5 @@
 -- The bits of a book's rules: the sums over rules, and the outputs rule by rule.
-use mathlib.Core.Path.{◌≡◌, refl, sym, ap, ap₂, subst, ◌∙◌}
+use mathlib.Core.Path.{◌≡◌, refl, sym, ap, ap₂, ◌∙◌}
 use mathlib.Core.Bool.{Bool, true, false, ◌&&◌, not}
 use mathlib.Core.Logic.{⊎_elim}
 use mathlib.Core.List.{List, [], ◌∷◌, ◌++◌}
@@ -7,105 +7,23 @@ use Prim.Native.Nat.{ℕ, zero, suc, ◌+◌, ◌*◌, ◌^◌, ◌≤◌, ◌<�
 use native.Mathlib.Omega.{arith}
 use native.Mathlib.Numerals.{add-one}
 use native.Mathlib.Nat.{add-zero, zero-add, add-suc, suc-add, add_assoc}
-use borrow.Author.Tests.{eq-eqb, ne_eqb}
-use lib.Dec.{eqb}
 use lib.ListN.{length, get_or, set, length-append}
-use lib.Seq.{sets, length-sets, get_or-set_same, get_or-set_other, set-get_or}
-use mir.Syntax.{w64}
-use mir.Val.{Fits}
+use lib.Seq.{sets, length-sets, get_or-set_same, get_or-set_other}
 use Rattle.terms.specs.Choice.{pick}
 use Rattle.formula.proofs.Cases.{below_or}
-use Rattle.plan.specs.Rows.{Summed, RowsPart}
-use Rattle.plan.specs.Book.{bits_below, asked, of_kind, properties, assumptions, first_bit, listed, kept, filled_in, is_zero, part_bits, Rowed, Chosen, Counted, Stored, Arranged}
-
--- ---- one rule
-module _ (kind : ℕ) (property : Bool) where
-  pub asked_property : property ≡ true → eqb kind 0 ≡ asked property (eqb kind 0)
-  asked_property e = sym (ap (λ (p : Bool). asked p (eqb kind 0)) e)
-
-  pub asked_assumption : property ≡ false → not (eqb kind 0) ≡ asked property (eqb kind 0)
-  asked_assumption e = sym (ap (λ (p : Bool). asked p (eqb kind 0)) e)
-
-module _ (kinds refusals nodes nfirsts ncounts : List ℕ) (r : ℕ) (kind : Bool) where
-  pub refused_rule : (get_or refusals r 0 ≡ 0 → ⊥) → Chosen (of_kind kind (is_zero kinds) (is_zero refusals)) (part_bits nodes nfirsts ncounts) r 0
-  refused_rule h = record {
-    is = sym (ap (λ (t : Bool). pick (t && asked kind (is_zero kinds r)) (part_bits nodes nfirsts ncounts r) 0) (ne_eqb _ 0 h));
-    most = omega arith;
-  }
-
-  module _ (e : get_or refusals r 0 ≡ 0) (v : Bool) (a : v ≡ asked kind (is_zero kinds r)) where
-    by_kind : pick (of_kind kind (is_zero kinds) (is_zero refusals) r) (part_bits nodes nfirsts ncounts r) 0 ≡ pick v (part_bits nodes nfirsts ncounts r) 0
-    by_kind = ap₂ (λ (t u : Bool). pick (t && u) (part_bits nodes nfirsts ncounts r) 0) (eq-eqb _ 0 e) (sym a)
-
-    pub other_rule : v ≡ false → Chosen (of_kind kind (is_zero kinds) (is_zero refusals)) (part_bits nodes nfirsts ncounts) r 0
-    other_rule f = record { is = sym (by_kind ∙ ap (λ (t : Bool). pick t (part_bits nodes nfirsts ncounts r) 0) f); most = omega arith }
-
-  module _ (e : get_or refusals r 0 ≡ 0) (n : ℕ) (w : Rowed kinds refusals nodes nfirsts ncounts n) (l : r < n) where
-    pub part_of : RowsPart nodes (get_or nfirsts r 0) (get_or ncounts r 0)
-    part_of = w.parts r l e
-
-    pub asked_rule : (v : Bool) → v ≡ asked kind (is_zero kinds r) → v ≡ true → (b : ℕ) → Summed nodes (get_or nfirsts r 0) (get_or ncounts r 0) b
-        → Chosen (of_kind kind (is_zero kinds) (is_zero refusals)) (part_bits nodes nfirsts ncounts) r b
-    asked_rule v a t b s = record {
-      is = s.is ∙ sym (by_kind e v a ∙ ap (λ (u : Bool). pick u (part_bits nodes nfirsts ncounts r) 0) t);
-      most = omega (arith, s.most, part_of.few);
-    }
+use Rattle.plan.specs.Book.{bits_below, properties, assumptions, first_bit, listed, kept, filled_in, is_zero, part_bits, Rowed, Chosen, Counted, Stored, Arranged}
 
 -- ---- sums over rules
-counted_none : (chosen : ℕ → Bool) (bits : ℕ → ℕ) → Counted chosen bits 0 0
+pub counted_none : (chosen : ℕ → Bool) (bits : ℕ → ℕ) → Counted chosen bits 0 0
 unfolding bits_below
 counted_none chosen bits = record { is = refl; most = omega arith }
 
-counted_more : (chosen : ℕ → Bool) (bits : ℕ → ℕ) (r s b : ℕ) → Counted chosen bits r s → Chosen chosen bits r b → Counted chosen bits (r + 1) (s + b)
+pub counted_more : (chosen : ℕ → Bool) (bits : ℕ → ℕ) (r s b : ℕ) → Counted chosen bits r s → Chosen chosen bits r b → Counted chosen bits (r + 1) (s + b)
 unfolding bits_below
 counted_more chosen bits r s b c d = record {
   is = ap₂ ◌+◌ c.is d.is ∙ sym (ap (bits_below chosen bits) (add-one r));
   most = omega (arith, c.most, d.most);
 }
-
-pub record Tallied (kinds refusals nodes nfirsts ncounts : List ℕ) (n : ℕ) (kind : Bool) (sum r : ℕ) : Type 0 where
-  pub rowed : Rowed kinds refusals nodes nfirsts ncounts n
-  pub below : r ≤ n
-  pub so_far : Counted (of_kind kind (is_zero kinds) (is_zero refusals)) (part_bits nodes nfirsts ncounts) r sum
-
-module _ (kinds refusals nodes nfirsts ncounts : List ℕ) (n : ℕ) (kind : Bool) where
-  pub tallied_none : Rowed kinds refusals nodes nfirsts ncounts n → Tallied kinds refusals nodes nfirsts ncounts n kind 0 0
-  tallied_none w = record { rowed = w; below = omega arith; so_far = counted_none _ _ }
-
-  module _ (sum r : ℕ) (t : Tallied kinds refusals nodes nfirsts ncounts n kind sum r) where
-    pub tallied_rowed : Rowed kinds refusals nodes nfirsts ncounts n
-    tallied_rowed = t.rowed
-
-    pub tallied_all : n ≤ r → Counted (of_kind kind (is_zero kinds) (is_zero refusals)) (part_bits nodes nfirsts ncounts) n sum
-    tallied_all h = subst (λ (k : ℕ). Counted (of_kind kind (is_zero kinds) (is_zero refusals)) (part_bits nodes nfirsts ncounts) k sum) (omega (arith, t.below)) t.so_far
-
-    module _ (h : r < n) (b : ℕ) (d : Chosen (of_kind kind (is_zero kinds) (is_zero refusals)) (part_bits nodes nfirsts ncounts) r b) where
-      pub tallied_fits : Fits w64 (sum + b)
-      tallied_fits = record { fits = omega (arith, t.so_far.most, d.most, t.rowed.few) }
-
-      pub tallied_more : Tallied kinds refusals nodes nfirsts ncounts n kind (sum + b) (r + 1)
-      tallied_more = record { rowed = t.rowed; below = omega arith; so_far = counted_more _ _ r sum b t.so_far d }
-
--- ---- one rule's values, stored
-module _ (kinds refusals : List ℕ) (r x y b : ℕ) (s t : List ℕ) where
-  pub stored_refused : (get_or refusals r 0 ≡ 0 → ⊥) → Stored (is_zero refusals r) (is_zero kinds r) r x y b s s t t
-  stored_refused h = record {
-    first_is = sym (ap (λ (c : Bool). set s r (pick c (pick (is_zero kinds r) x y) (get_or s r 0))) (ne_eqb _ 0 h) ∙ set-get_or s r 0);
-    bits_are = sym (ap (λ (c : Bool). set t r (pick c b (get_or t r 0))) (ne_eqb _ 0 h) ∙ set-get_or t r 0);
-  }
-
-  module _ (e : get_or refusals r 0 ≡ 0) where
-    pub stored_property : get_or kinds r 0 ≡ 0 → Stored (is_zero refusals r) (is_zero kinds r) r x y b s (set s r x) t (set t r b)
-    stored_property h = record {
-      first_is = sym (ap₂ (λ (c d : Bool). set s r (pick c (pick d x y) (get_or s r 0))) (eq-eqb _ 0 e) (eq-eqb _ 0 h));
-      bits_are = sym (ap (λ (c : Bool). set t r (pick c b (get_or t r 0))) (eq-eqb _ 0 e));
-    }
-
-    pub stored_assumption : (get_or kinds r 0 ≡ 0 → ⊥) → Stored (is_zero refusals r) (is_zero kinds r) r x y b s (set s r y) t (set t r b)
-    stored_assumption h = record {
-      first_is = sym (ap₂ (λ (c d : Bool). set s r (pick c (pick d x y) (get_or s r 0))) (eq-eqb _ 0 e) (ne_eqb _ 0 h));
-      bits_are = sym (ap (λ (c : Bool). set t r (pick c b (get_or t r 0))) (eq-eqb _ 0 e));
-    }
 
 -- ---- the outputs, rule by rule
 sets_snoc : (xs l : List ℕ) (i v : ℕ) → sets l i (xs ++ (v ∷ [])) ≡ set (sets l i xs) (i + length xs) v
@@ -220,15 +138,6 @@ module _ (kinds refusals nodes nfirsts ncounts : List ℕ) (base n : ℕ) (start
   }
 
   module _ (starts' bits' : List ℕ) (x y r : ℕ) (g : Arranging kinds refusals nodes nfirsts ncounts base n starts starts' bits bits' x y r) where
-    pub arranging_rowed : Rowed kinds refusals nodes nfirsts ncounts n
-    arranging_rowed = g.rowed
-
-    pub starts_length : length starts' ≡ length starts
-    starts_length = ap length g.firsts_are ∙ length-sets starts 0 (listed (kept (is_zero refusals) (first_bit base n (is_zero kinds) (is_zero refusals) (part_bits nodes nfirsts ncounts)) starts) r)
-
-    pub bits_length : length bits' ≡ length bits
-    bits_length = ap length g.bits_are ∙ length-sets bits 0 (listed (kept (is_zero refusals) (part_bits nodes nfirsts ncounts) bits) r)
-
     pub arranged : n ≤ r → Arranged base n (is_zero kinds) (is_zero refusals) (part_bits nodes nfirsts ncounts) starts starts' bits bits'
     arranged h =
         let e : r ≡ n = omega (arith, g.below) in
@@ -238,25 +147,7 @@ module _ (kinds refusals nodes nfirsts ncounts : List ℕ) (base n : ℕ) (start
         }
 
     module _ (h : r < n) where
-      pub arranging_room : (r < length kinds) × ((r < length refusals) × ((r < length starts') × (r < length bits')))
-      arranging_room = (omega (arith, g.rowed.in_kinds), (omega (arith, g.rowed.in_refusals), (omega (arith, starts_length, g.in_starts), omega (arith, bits_length, g.in_bits))))
-
-      pub first_property : Fits w64 (base + x)
-      first_property = record { fits = omega (arith, g.low, g.next_property.most, g.rowed.few) }
-
-      pub first_assumption : Fits w64 (base + y)
-      first_assumption = record { fits = omega (arith, g.low, g.most, g.rowed.few) }
-
       module _ (p a : ℕ) (d : Chosen (properties (is_zero kinds) (is_zero refusals)) (part_bits nodes nfirsts ncounts) r p) (f : Chosen (assumptions (is_zero kinds) (is_zero refusals)) (part_bits nodes nfirsts ncounts) r a) where
-        pub both_fit : Fits w64 (p + a)
-        both_fit = record { fits = omega (arith, d.most, f.most) }
-
-        pub property_fits : Fits w64 (x + p)
-        property_fits = record { fits = omega (arith, g.next_property.most, d.most, g.rowed.few) }
-
-        pub assumption_fits : Fits w64 (y + a)
-        assumption_fits = record { fits = omega (arith, g.most, f.most, g.rowed.few) }
-
         pub arranging_more : (starts'' bits'' : List ℕ) → Stored (is_zero refusals r) (is_zero kinds r) r (base + x) (base + y) (p + a) starts' starts'' bits' bits''
             → Arranging kinds refusals nodes nfirsts ncounts base n starts starts'' bits bits'' (x + p) (y + a) (r + 1)
         unfolding bits_below

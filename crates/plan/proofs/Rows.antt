@@ -20,9 +20,9 @@ use Rattle.formula.proofs.Walks.{both_true}
 use Rattle.formula.proofs.Rules.{keep_inv}
 use Rattle.monitor.specs.declared.range.AnchorRange.{AnchorRange}
 use Rattle.monitor.specs.declared.node.SignalExpr.{SignalExpr}
+use Rattle.monitor.specs.declared.node.MonNode.{MonNode}
 use Rattle.monitor.specs.declared.node.MonNode.TheVariants.{RangeCheck, DelayedCheck, Obligation, And as AndNode, Or as OrNode}
-use Rattle.monitor.specs.declared.node.Row.{Row}
-use Rattle.monitor.specs.declared.node.Row.TheVariants.{Node, Unknown}
+use Rattle.std.specs.Prelude.{None, Option as Opt, Some}
 use Rattle.monitor.specs.Mon.{Signal, Check, range_check, delayed_check, obligation, Mon}
 use Rattle.monitor.specs.Table.{form_at, cell, row_of, range_from, expr_from, signal_of, Never, Join, join_and, join_or, Cell, checked, cell_of, cell_at, from_tree, limited_mon, mon_of, mon_by, compiled_of}
 use Rattle.plan.specs.Layout.{nothing, register, owing, check_piece, pieces, total, bits}
@@ -43,15 +43,15 @@ leaf_inj : {c d : Check} → ◌≡◌ {A = Cell} (leaf_of c) (leaf_of d) → c 
 leaf_inj e = cc
 
 -- what the row of seven numbers says, by its form
-abbrev row_by : ℕ → ℕ → SignalExpr → SignalExpr → AnchorRange → Row
+abbrev row_by : ℕ → ℕ → SignalExpr → SignalExpr → AnchorRange → Opt MonNode
 row_by form b s t r =
-    pick (ltb form 1) (Node (RangeCheck s r))
-    (pick (ltb form 2) (Node (DelayedCheck s t r))
-    (pick (ltb form 3) (Node (Obligation b s t r))
-    (pick (ltb form 4) (Node AndNode)
-    (pick (ltb form 5) (Node OrNode) Unknown))))
+    pick (ltb form 1) (Some (RangeCheck s r))
+    (pick (ltb form 2) (Some (DelayedCheck s t r))
+    (pick (ltb form 3) (Some (Obligation b s t r))
+    (pick (ltb form 4) (Some AndNode)
+    (pick (ltb form 5) (Some OrNode) None))))
 
-row_past : (form b : ℕ) (s t : SignalExpr) (r : AnchorRange) → 5 ≤ form → row_by form b s t r ≡ Unknown
+row_past : (form b : ℕ) (s t : SignalExpr) (r : AnchorRange) → 5 ≤ form → row_by form b s t r ≡ None
 row_past form b s t r h =
     let h₁ : 1 ≤ form = omega arith in
     let h₂ : 2 ≤ form = omega arith in

@@ -1,16 +1,14 @@
 -- `ceil_log2 n` is the least k with n ≤ 2^k, for every n; so `width b` is that of b + 1, for every bound b.
 use mathlib.Core.Path.{◌≡◌, refl, sym, ap, subst, ◌∙◌}
 use mathlib.Core.Bool.{Bool, true, false}
-use Prim.Native.Nat.{ℕ, zero, suc, ◌+◌, ◌-◌, ◌/◌, ◌^◌, ◌≤◌, ◌<◌}
+use Prim.Native.Nat.{ℕ, zero, suc, ◌+◌, ◌*◌, ◌^◌, ◌≤◌, ◌<◌}
 use native.Mathlib.Omega.{arith}
-use native.Mathlib.Nat.{two-pow-succ, pos_of_ne-zero, pow-le-pow_right}
-use native.Mathlib.Numerals.{one-add}
+use native.Mathlib.Nat.{two-pow-succ, pow-le-pow_right}
+use native.Mathlib.Numerals.{add-one}
 use lib.Dec.{leb}
 use mathlib.Core.Logic.{⊎_elim}
 use Rattle.terms.specs.Choice.{pick}
 use Rattle.formula.proofs.Cases.{below_or}
-use mir.Syntax.{w64}
-use mir.Val.{Fits}
 use borrow.Author.Tests.{leb-true, leb-false}
 use Rattle.plan.specs.Width.{LeastPower, first_power, ceil_log2, width}
 
@@ -20,17 +18,6 @@ least_only {n} {j} {k} p q = omega (arith, p.least k q.enough, q.least j p.enoug
 
 least_none : (n : ℕ) → n ≤ 1 → LeastPower n 0
 least_none n h = record { enough = omega arith; least = λ j g. omega arith }
-
--- half of m takes one bit less
-least_half : (m k : ℕ) → 0 < m → LeastPower (m / 2 + 1) k → LeastPower (m + 1) (1 + k)
-least_half m k h w = record {
-  enough = subst (λ (n : ℕ). m + 1 ≤ 2 ^ n) (sym (one-add k)) (omega (arith, w.enough, two-pow-succ k));
-  least = below;
-}
-  where
-    below : (j : ℕ) → m + 1 ≤ 2 ^ j → 1 + k ≤ j
-    below zero g = absurd (omega arith)
-    below (suc i) g = omega (arith, w.least i (omega (arith, two-pow-succ i)))
 
 pub two_pow_pos : (k : ℕ) → 0 < 2 ^ k
 two_pow_pos zero = omega arith
@@ -87,43 +74,20 @@ ceil_log2_is n k above upto = least_only (ceil_log2_lem n) (record { enough = up
         (λ l. l)
         (below_or j (k + 1))
 
--- ---- the loop that halves
+-- ---- the bits of a bound
 pub width_nought : width 0 ≡ 0
 width_nought = least_only (ceil_log2_lem (0 + 1)) (least_none (0 + 1) (omega arith))
-
-pub width_step : (m : ℕ) → 0 < m → width m ≡ 1 + width (m / 2)
-width_step m h = least_only (ceil_log2_lem (m + 1)) (least_half m (width (m / 2)) h (ceil_log2_lem (m / 2 + 1)))
 
 -- 64 bits hold every bound
 pub width_most : (b : ℕ) → b < 2 ^ 64 → width b ≤ 64
 width_most b h = (ceil_log2_lem (b + 1)).least 64 (omega arith)
 
--- after k halvings of b, n is left
-pub record Halved (b n k : ℕ) : Type 0 where
-  pub small : b < 2 ^ 64
-  pub is : k + width n ≡ width b
+pub width_zero : (b : ℕ) → b ≡ 0 → 0 ≡ width b
+width_zero b e = sym (ap width e ∙ width_nought)
 
-pub halved_none : (b : ℕ) → b < 2 ^ 64 → Halved b b 0
-halved_none b h = record { small = h; is = omega arith }
+-- the place of the highest bit
+pub width_is : (b k : ℕ) → 2 ^ k ≤ b → b < 2 * 2 ^ k → k + 1 ≡ width b
+width_is b k h l = sym (ceil_log2_is (b + 1) k (omega arith) (subst (λ (m : ℕ). b + 1 ≤ 2 ^ m) (sym (add-one k)) (omega (arith, two-pow-succ k))))
 
-pub halved_fits : (b n k : ℕ) → Halved b n k → 0 < n → Fits w64 (k + 1)
-halved_fits b n k h p = record { fits = omega (arith, width_most b h.small, h.is, width_step n p) }
-
-pub halved_again : (b n k : ℕ) → Halved b n k → 0 < n → Halved b (n / 2) (k + 1)
-halved_again b n k h p = record { small = h.small; is = omega (arith, h.is, width_step n p) }
-
-pub halved_all : (b n k : ℕ) → Halved b n k → n ≤ 0 → k ≡ width b
-halved_all b n k h z = omega (arith, h.is, ap width (le_zero n z), width_nought)
-  where
-    le_zero : (m : ℕ) → m ≤ 0 → m ≡ 0
-    le_zero m e = omega arith
-
--- ---- ceil_log2 by that loop
 pub log_none : (n : ℕ) → n ≡ 0 → 0 ≡ ceil_log2 n
 log_none n e = least_only (least_none n (omega arith)) (ceil_log2_lem n)
-
-pub log_past : (n r : ℕ) → (n ≡ 0 → ⊥) → r ≡ width (n - 1) → r ≡ ceil_log2 n
-log_past n r h e =
-    let p : 0 < n = pos_of_ne-zero h in
-    let z : n - 1 + 1 ≡ n = omega arith in
-    e ∙ ap ceil_log2 z

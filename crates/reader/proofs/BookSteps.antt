@@ -15,24 +15,24 @@ use lib.Seq.{drop-drop, length-take-le}
 use Rattle.terms.specs.Choice.{pick}
 use Rattle.line.specs.Text.{lines, parts, first_at, Found}
 use Rattle.line.specs.Line.{Content, rule, node, step, states, slot, Line, right, parse}
-use Rattle.line.specs.Means.{held, means, LineIs}
+use Rattle.line.specs.Means.{Answer, held, means, LineIs}
 use Rattle.line.specs.declared.line.Content as held-type
 use Rattle.line.specs.declared.line.Content.TheVariants as contents
-use Rattle.line.specs.declared.line.Line as code
-use Rattle.line.specs.declared.line.Line.TheVariants as code_lines
+use Rattle.std.specs.Prelude.{Ok, Err}
+use Rattle.line.specs.declared.line.Fault.{Fault}
+use Rattle.line.specs.declared.line.Fault.TheVariants as fault_of
 use Rattle.line.specs.contracts.line.Content as content-type
-use Rattle.line.specs.contracts.line.Line as line-type
 use Rattle.line.proofs.Parts.{lines_next, lines_none, first_inside}
 use Rattle.book.specs.Book.{Book, StepLine, empty, is_nil, whole, opening, stands, fault, add, add_line, accepted, refused, read_on, ended, read}
 use Rattle.result.specs.Result.{given}
 use Rattle.reader.specs.Steps.{step_in, as_step, Next, next_at, next_in, next_step, result_of, before, steps_of, steps_from}
-use Rattle.reader.specs.declared.steps.StepRead.TheVariants.{Step, End}
+use Rattle.std.specs.Prelude.{Some, None}
 use Rattle.book.proofs.Checks.{ended_drop, ended_found}
 use Rattle.reader.proofs.Sounds.{both, Passed, PassedLine, passed}
 use Rattle.reader.proofs.Runs.{accepted_lines, accepted_ended, accepted_inj, unless_none}
 
 -- ---- the step line at a place, from what the code has found
-pub next_past : (text : List ℕ) (at : ℕ) → length text ≤ at → result_of End ≡ given (next_step text at)
+pub next_past : (text : List ℕ) (at : ℕ) → length text ≤ at → result_of None ≡ given (next_step text at)
 unfolding next_step next_in first_at
 next_past text at h = rw (drop_of_length-le text h) refl
 
@@ -41,10 +41,10 @@ module _ (text rest : List ℕ) (at n : ℕ) (e : rest ≡ drop at text) (f : Fo
   unfolding next_step next_in
   next_is = ap (λ (r : List ℕ). next_in r at) (sym e) ∙ ap (λ (i : ℕ). pick (ltb i (length rest)) (next_at (as_step (parse (take i rest))) (at + (i + 1))) none) (sym f.is)
 
-  pub next_unended : length rest ≤ n → result_of End ≡ given (next_step text at)
+  pub next_unended : length rest ≤ n → result_of None ≡ given (next_step text at)
   next_unended h = sym (ap given (next_is ∙ ap (λ (b : Bool). pick b (next_at (as_step (parse (take n rest))) (at + (n + 1))) none) (le-ltb n (length rest) h)))
 
-  module _ (first : List ℕ) (l : code.Line) (k : n < length rest) (e' : first ≡ take n rest) (is : LineIs first l) where
+  module _ (first : List ℕ) (l : Answer) (k : n < length rest) (e' : first ≡ take n rest) (is : LineIs first l) where
     next_line : next_step text at ≡ next_at (as_step (means first l)) (at + (n + 1))
     next_line =
         next_is
@@ -52,24 +52,23 @@ module _ (text rest : List ℕ) (at n : ℕ) (e : rest ≡ drop at text) (f : Fo
         ∙ ap (λ (x : List ℕ). next_at (as_step (parse x)) (at + (n + 1))) (sym e')
         ∙ ap (λ (x : Line). next_at (as_step x) (at + (n + 1))) (sym is.holds)
 
-    pub next_none : OneOf (0 ∷ 1 ∷ []) (tag_of line-type.the_type l) → result_of End ≡ given (next_step text at)
+    pub next_none : (x : Fault) → l ≡ Err x → result_of None ≡ given (next_step text at)
     unfolding means
-    next_none q = sym (ap given (next_line ∙ ap (λ (x : Option StepLine). next_at x (at + (n + 1))) (go l q)))
+    next_none x q = sym (ap given (next_line ∙ ap (λ (m : Answer). next_at (as_step (means first m)) (at + (n + 1))) q ∙ ap (λ (y : Option StepLine). next_at y (at + (n + 1))) (go x)))
       where
-        go : (m : code.Line) → OneOf (0 ∷ 1 ∷ []) (tag_of line-type.the_type m) → as_step (means first m) ≡ none
-        go code_lines.Bad k = refl
-        go (code_lines.Wrong o f) k = refl
-        go (code_lines.Right c) k = absurd (miss (0 ∷ 1 ∷ []) 2 tt k)
+        go : (x : Fault) → as_step (means first (Err x)) ≡ none
+        go fault_of.Unreadable = refl
+        go (fault_of.Field o f) = refl
 
-    module _ (c : held-type.Content) (q : l ≡ code_lines.Right c) where
+    module _ (c : held-type.Content) (q : l ≡ Ok c) where
       next_held : next_step text at ≡ next_at (step_in (held first c)) (at + (n + 1))
       unfolding means
-      next_held = next_line ∙ ap (λ (m : code.Line). next_at (as_step (means first m)) (at + (n + 1))) q
+      next_held = next_line ∙ ap (λ (m : Answer). next_at (as_step (means first m)) (at + (n + 1))) q
 
-      pub next_step_lem : (s w : ℕ) → c ≡ contents.Step s w → result_of (Step s w (at + (n + 1))) ≡ given (next_step text at)
+      pub next_step_lem : (s w : ℕ) → c ≡ contents.Step s w → result_of (Some (record { step = s; truths = w; next = at + (n + 1) })) ≡ given (next_step text at)
       next_step_lem s w z = sym (ap given (next_held ∙ ap (λ (x : held-type.Content). next_at (step_in (held first x)) (at + (n + 1))) z))
 
-      pub next_other : OneOf (0 ∷ 1 ∷ 3 ∷ 4 ∷ []) (tag_of content-type.the_type c) → result_of End ≡ given (next_step text at)
+      pub next_other : OneOf (0 ∷ 1 ∷ 3 ∷ 4 ∷ []) (tag_of content-type.the_type c) → result_of None ≡ given (next_step text at)
       next_other z = sym (ap given (next_held ∙ ap (λ (x : Option StepLine). next_at x (at + (n + 1))) (go c z)))
         where
           go : (m : held-type.Content) → OneOf (0 ∷ 1 ∷ 3 ∷ 4 ∷ []) (tag_of content-type.the_type m) → step_in (held first m) ≡ none

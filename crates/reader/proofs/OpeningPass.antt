@@ -6,19 +6,15 @@ use Prim.Native.Nat.{ℕ, suc, ◌+◌, ◌-◌, ◌≤◌, ◌<◌}
 use native.Mathlib.Omega.{arith}
 use mir.Syntax.{w64}
 use mir.Val.{Fits}
-use types.Run.{OneOf}
-use denote.Enum.Declared.{tag_of}
 use lib.ListN.{length, take, drop, length-append, length-drop}
 use Rattle.number.proofs.Numbers.{below_or}
 use Rattle.line.specs.Text.{lines, Found}
 use Rattle.line.specs.Line.{Content, rule, node, step, states, slot, Line, right, parse}
-use Rattle.line.specs.Means.{held, means, label_in, in_line, LineIs}
+use Rattle.line.specs.Means.{Answer, held, means, label_in, in_line, LineIs}
 use Rattle.line.specs.declared.line.Content as held-type
 use Rattle.line.specs.declared.line.Content.TheVariants as contents
-use Rattle.line.specs.declared.line.Line as code
-use Rattle.line.specs.declared.line.Line.TheVariants as code_lines
-use Rattle.line.specs.contracts.line.Content as content-type
-use Rattle.line.specs.contracts.line.Line as line-type
+use Rattle.std.specs.Prelude.{Ok, Err}
+use Rattle.line.specs.declared.line.Fault.{Fault}
 use Rattle.line.proofs.Sane.{Sane}
 use Rattle.book.specs.Book.{Book, fault, add, add_line, accepted, read_on}
 use Rattle.reader.specs.BookTables.{SlotTables, slot_columns, over, cells, slots_written}
@@ -32,12 +28,12 @@ use Rattle.reader.proofs.Reaching.{Reach, right_is, reach_first, reach_on, reach
 use Rattle.reader.proofs.Columns.{over_long, over_snoc, cells_snoc, cells_long, map_snoc}
 
 -- ---- a line
-module _ (line : List ℕ) (l : code.Line) (is : LineIs line l) where
+module _ (line : List ℕ) (l : Answer) (is : LineIs line l) where
   -- a line with no content leaves everything
-  pub slot_none : (u : SlotTables) (k : ℕ) → OneOf (0 ∷ 1 ∷ []) (tag_of line-type.the_type l) → SlotLinePut line u k u k
-  slot_none u k h = record { left = λ c e. absurd (line_right line l is h c e) }
+  pub slot_none : (u : SlotTables) (k : ℕ) (x : Fault) → l ≡ Err x → SlotLinePut line u k u k
+  slot_none u k x h = record { left = λ c e. absurd (line_right line l is x h c e) }
 
-  module _ (x : held-type.Content) (e : l ≡ code_lines.Right x) where
+  module _ (x : held-type.Content) (e : l ≡ Ok x) where
     slot_held : parse line ≡ right (held line x)
     unfolding means
     slot_held = sym is.holds ∙ ap (means line) e

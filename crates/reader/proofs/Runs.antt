@@ -12,7 +12,8 @@ use Rattle.terms.specs.Choice.{pick}
 use Rattle.line.specs.Text.{lines}
 use Rattle.line.specs.Line.{Content, rule, node, step, states, slot}
 use Rattle.line.proofs.Sane.{Sane}
-use Rattle.book.specs.Book.{Book, empty, last_of, Fault, add, Outcome, accepted, refused, unless, read_on, ended, read}
+use Rattle.result.specs.declared.Refusal.{Refusal}
+use Rattle.book.specs.Book.{Book, empty, last_of, add, Outcome, accepted, refused, unless, read_on, ended, read}
 use Rattle.book.proofs.States.{last_snoc, last_bump}
 use Rattle.reader.specs.BookTables.{BookTables, SlotTables, columns, over, written, roomy, roomy_slots}
 use Rattle.reader.specs.Answer.{Roomy, RoomySlots}
@@ -110,7 +111,7 @@ accepted_short text b e = go (leb (length text) 65535) refl e
     go false q e = accepted_refused e
 
 -- no line of it fails a test
-pub unless_none : (o : Option Fault) (k : ℕ) (r : Outcome) (b : Book) → unless o k r ≡ accepted b → (o ≡ none) × (r ≡ accepted b)
+pub unless_none : (o : Option Refusal) (k : ℕ) (r : Outcome) (b : Book) → unless o k r ≡ accepted b → (o ≡ none) × (r ≡ accepted b)
 unless_none none k r b e = (refl, e)
 unless_none (some f) k r b e = accepted_refused e
 

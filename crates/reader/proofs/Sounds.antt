@@ -3,15 +3,17 @@ use mathlib.Core.Path.{◌≡◌, refl, sym, subst, ◌∙◌}
 use mathlib.Core.Bool.{Bool, true, false, ◌&&◌, not}
 use mathlib.Core.List.{List, [], ◌∷◌, ◌++◌}
 use mathlib.Core.Option.{none, some}
-use Prim.Native.Nat.{ℕ, ◌+◌, ◌-◌, ◌≤◌, ◌<◌}
+use Prim.Native.Nat.{ℕ, ◌≤◌, ◌<◌}
 use native.Mathlib.Omega.{arith}
 use borrow.Author.Tests.{leb-true, ltb-true}
 use lib.Dec.{leb}
 use lib.ListN.{length, length-append}
 use Rattle.terms.specs.Choice.{pick}
-use Rattle.line.specs.Line.{Content, rule, node, step, states, slot, sort_of, Line, bad, wrong, right, is_label, printable, parse}
+use Rattle.line.specs.Line.{Content, rule, node, step, states, slot, sort_of, Line, bad, wrong, right, is_label, printable, parse, refusal_of}
 use Rattle.line.proofs.Sane.{Sane, SaneLine, parse_sane}
-use Rattle.book.specs.Book.{Book, empty, is_nil, head_of, last_of, Fault, place, unopened, field, limit, or_else, stands, opens, within, first_fault, fault, add, add_line}
+use Rattle.result.specs.declared.Refusal.{Refusal}
+use Rattle.result.specs.declared.Refusal.TheVariants as why
+use Rattle.book.specs.Book.{Book, empty, is_nil, head_of, last_of, or_else, stands, opens, within, first_fault, fault, add, add_line}
 use Rattle.book.proofs.States.{bump_length}
 
 pub both : {a b : Bool} → (a && b) ≡ true → (a ≡ true) × (b ≡ true)
@@ -24,7 +26,7 @@ both {a} {b} h = go a b h
     go false false h = (h, h)
 
 -- ---- a line that no test fails
-some_none : {A : Type 0} {f : Fault} → some f ≡ none → A
+some_none : {A : Type 0} {f : Refusal} → some f ≡ none → A
 some_none e = let z : ◌≡◌ {A = ℕ} 0 1 = cc in absurd (omega arith)
 
 pub record Passed (b : Book) (c : Content) : Type 0 where
@@ -43,14 +45,14 @@ unfolding fault first_fault
 passed b bad e = some_none e
 passed b (wrong o f) e = go (stands b o) (opens b o) e
   where
-    go : (t v : Bool) → or_else (pick t none (some place)) (or_else (pick v none (some unopened)) (some (field f))) ≡ none → PassedLine b (wrong o f)
+    go : (t v : Bool) → or_else (pick t none (some why.Place)) (or_else (pick v none (some why.Unopened)) (some (refusal_of f))) ≡ none → PassedLine b (wrong o f)
     go true true e = some_none e
     go true false e = some_none e
     go false v e = some_none e
 passed b (right c) e = go (stands b (sort_of c)) refl (opens b (sort_of c)) refl (within b (sort_of c)) refl e
   where
     go : (t : Bool) → stands b (sort_of c) ≡ t → (v : Bool) → opens b (sort_of c) ≡ v → (u : Bool) → within b (sort_of c) ≡ u
-        → or_else (pick t none (some place)) (or_else (pick v none (some unopened)) (or_else (pick u none (some limit)) none)) ≡ none
+        → or_else (pick t none (some why.Place)) (or_else (pick v none (some why.Unopened)) (or_else (pick u none (some why.Limit)) none)) ≡ none
         → PassedLine b (right c)
     go true p true w true q e = record { content = c; is = refl; passed = record { here = p; opened = w; limits = q } }
     go true p true w false q e = some_none e

@@ -6,8 +6,8 @@ use Prim.Native.Nat.{ℕ, ◌<◌}
 use Rattle.result.specs.Result.{given}
 use Rattle.book.specs.Book.{Book, StepLine, accepted, read}
 use Rattle.reader.specs.Steps.{next_step, result_of, steps_from}
-use Rattle.reader.specs.declared.steps.StepRead.{StepRead}
-use Rattle.reader.specs.declared.steps.StepRead.TheVariants.{Step, End}
+use Rattle.std.specs.Prelude.{Option as Opt, Some, None}
+use Rattle.reader.specs.declared.steps.StepLine as code
 use Rattle.reader.proofs.BookSteps as laws
 use Rattle.reader.proofs.BookSteps.{handed}
 
@@ -33,16 +33,16 @@ steps_in_order text b ss e h = sym (handed_out text b.head ss h) ∙ steps_of_bo
 given_is : {A : Type 0} {a b : A} → given a ≡ given b → a ≡ b
 given_is e = cc
 
-module _ (text : List ℕ) (at : ℕ) (r : StepRead) (h : result_of r ≡ given (next_step text at)) where
-  pub none_left : r ≡ End → steps_from text at ≡ []
+module _ (text : List ℕ) (at : ℕ) (r : Opt code.StepLine) (h : result_of r ≡ given (next_step text at)) where
+  pub none_left : r ≡ None → steps_from text at ≡ []
   none_left e = laws.steps_next text at ∙ ap (handed text) (given_is (sym h ∙ ap result_of e))
 
-  module _ (s w next : ℕ) (e : r ≡ Step s w next) where
-    next_is : next_step text at ≡ some (record { line = record { number = s; truths = w }; next = next })
+  module _ (x : code.StepLine) (e : r ≡ Some x) where
+    next_is : next_step text at ≡ some (record { line = record { number = x.step; truths = x.truths }; next = x.next })
     next_is = given_is (sym h ∙ ap result_of e)
 
-    pub one_more : steps_from text at ≡ record { number = s; truths = w } ∷ steps_from text next
+    pub one_more : steps_from text at ≡ record { number = x.step; truths = x.truths } ∷ steps_from text x.next
     one_more = laws.steps_next text at ∙ ap (handed text) next_is
 
-    pub forward : at < next
+    pub forward : at < x.next
     forward = (laws.next_inside text at _ next_is).forward

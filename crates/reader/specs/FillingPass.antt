@@ -1,5 +1,5 @@
 -- What the functions of the filling pass ask and leave.
-use Rattle.std.specs.Prelude.{◌≡◌, true, List, [], ◌++◌, ℕ, ◌+◌, ◌-◌, ◌*◌, ◌≤◌, ◌<◌, length, take, drop, set}
+use Rattle.std.specs.Prelude.{◌≡◌, true, List, ◌++◌, ℕ, ◌+◌, ◌-◌, ◌*◌, ◌≤◌, ◌<◌, length, take, drop, set}
 use Rattle.terms.specs.Limits.{book_nodes, book_rules, book_slots, label_bytes, labels_room, names_room, rule_nodes}
 use Rattle.line.specs.Line.{Content, rule, node, step, states, slot, right, parse}
 use Rattle.book.specs.Book.{Book, accepted, read}

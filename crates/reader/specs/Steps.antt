@@ -9,8 +9,8 @@ use Rattle.result.specs.Result.{Result, given}
 use Rattle.line.specs.Text.{lines, first_at}
 use Rattle.line.specs.Line.{Content, rule, node, step, states, slot, Line, bad, wrong, right, parse}
 use Rattle.book.specs.Book.{StepLine}
-use Rattle.reader.specs.declared.steps.StepRead.{StepRead}
-use Rattle.reader.specs.declared.steps.StepRead.TheVariants.{Step, End}
+use Rattle.std.specs.Prelude.{Option as Opt, Some, None}
+use Rattle.reader.specs.declared.steps.StepLine as code
 
 -- the step that a line is, if it is one
 abbrev pub step_in : Content → Option StepLine
@@ -44,9 +44,9 @@ unfoldable pub next_step : List ℕ → ℕ → Option Next
 next_step text at = next_in (drop at text) at
 
 -- document 01's result for each case of the answer: never a refusal
-abbrev pub result_of : StepRead → Result (Option Next)
-result_of (Step s w next) = given (some (record { line = record { number = s; truths = w }; next = next }))
-result_of End = given none
+abbrev pub result_of : Opt code.StepLine → Result (Option Next)
+result_of (Some x) = given (some (record { line = record { number = x.step; truths = x.truths }; next = x.next }))
+result_of None = given none
 
 -- ---- all step lines
 abbrev pub before : Option StepLine → List StepLine → List StepLine

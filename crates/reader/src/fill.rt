@@ -3,12 +3,12 @@ ghost use Rattle.std.specs.Prelude.{◌≡◌, ◌+◌, ◌*◌, ◌≤◌, ◌<
 ghost use Rattle.reader.specs.BookTables.{columns};
 ghost use Rattle.reader.specs.FillingPass.{placed, RuleRoom, RulePut, NodeRoom, NodePut, LineRoom, LinePut, Fillable, FilledTables};
 
-use line::line::{Content, Line, read_line};
+use line::line::{Content, read_line};
 use line::text::{find, past, upto};
 use terms::limit::LABEL_BYTES;
 
 // The rules begun, the nodes written, and the nodes of the rule in hand.
-#[derive(Clone, Copy)]
+#[derive(Clone, Copy, Debug, PartialEq, Eq)]
 pub struct Tally {
     pub rules: usize,
     pub nodes: usize,
@@ -20,11 +20,7 @@ pub(crate) fn copy_in(dst: &mut [u8], at: usize, src: &[u8])
     requires { at + length src.now ≤ length dst.old }
     ensures { dst.new ≡ placed dst.old at src.now }
 {
-    let mut j: usize = 0;
-    while j < src.len() {
-        dst[at + j] = src[j];
-        j += 1;
-    }
+    dst[at..at + src.len()].copy_from_slice(src);
 }
 
 // A rule's head at its place of the rule list.
@@ -52,8 +48,8 @@ fn put_rule(
     counts[r] = 0;
     Tally {
         rules: r + 1,
-        nodes: n,
         own: 0,
+        ..f
     }
 }
 
@@ -78,9 +74,9 @@ fn put_node(
     ops[n] = op;
     nums[n] = num;
     Tally {
-        rules: r,
         nodes: n + 1,
         own: more,
+        ..f
     }
 }
 
@@ -102,24 +98,28 @@ fn put_line(
         nums.old) f (columns labels.new lens.new kinds.new firsts.new counts.new
         ops.new nums.new) result }
 {
-    let l = read_line(line);
-    let Line::Right(c) = l else {
+    let Ok(content) = read_line(line) else {
         return f;
     };
-    match c {
+    match content {
         Content::Rule { start, len, kind } => {
             let rest = past(line, start);
             let label = upto(rest, len);
-            put_rule(labels, lens, kinds, firsts, counts, label, kind, f)
+            put_rule(
+                labels,
+                lens,
+                kinds,
+                firsts,
+                counts,
+                label,
+                u8::from(kind),
+                f,
+            )
         }
         Content::Node { op, num } => put_node(counts, ops, nums, op, num, f),
-        Content::Step { step: _, truths: _ } => f,
-        Content::States { count: _ } => f,
-        Content::Slot {
-            start: _,
-            len: _,
-            width: _,
-        } => f,
+        Content::Step { .. } => f,
+        Content::States { .. } => f,
+        Content::Slot { .. } => f,
     }
 }
 
@@ -147,6 +147,7 @@ pub(crate) fn fill(
         own: 0,
     };
     let mut at: usize = 0;
+    // a line is as long as its text says, so the loop moves by places
     while at < head {
         let rest = past(text, at);
         let n = find(rest, 10);

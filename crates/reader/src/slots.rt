@@ -3,7 +3,7 @@ ghost use Rattle.reader.specs.BookTables.{slot_columns};
 ghost use Rattle.reader.specs.FillingPass.{SlotRoom, SlotPut, SlotLineRoom, SlotLinePut, SlotsFillable, FilledSlots};
 
 use crate::fill::copy_in;
-use line::line::{Content, Line, read_line};
+use line::line::{Content, read_line};
 use line::text::{find, past, upto};
 use terms::limit::LABEL_BYTES;
 
@@ -38,11 +38,10 @@ fn put_opening(
     ensures { SlotLinePut line.now (slot_columns names.old lens.old widths.old) k
         (slot_columns names.new lens.new widths.new) result }
 {
-    let l = read_line(line);
-    let Line::Right(c) = l else {
+    let Ok(content) = read_line(line) else {
         return k;
     };
-    let Content::Slot { start, len, width } = c else {
+    let Content::Slot { start, len, width } = content else {
         return k;
     };
     let rest = past(line, start);
@@ -65,6 +64,7 @@ pub(crate) fn fill_slots(
 {
     let mut k: usize = 0;
     let mut at: usize = 0;
+    // a line is as long as its text says, so the loop moves by places
     while k < slots {
         let rest = past(text, at);
         let n = find(rest, 10);

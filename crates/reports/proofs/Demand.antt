@@ -5,7 +5,10 @@ use mathlib.Core.Option.{Option, none, some}
 use mathlib.Core.Path.{◌≡◌, refl, sym, ap, ap₂, subst, ◌∙◌}
 use Prim.Native.Nat.{ℕ, ◌<◌}
 use native.Mathlib.Omega.{arith}
+use Rattle.std.specs.Prelude.{Ok, Err}
+use Rattle.std.specs.Prelude.{Result as Returned}
 use Rattle.result.specs.Result.{Result, given, refused}
+use Rattle.result.specs.declared.Refusal.{Refusal}
 use Rattle.formula.specs.Formula.{Formula}
 use Rattle.formula.specs.Table.{rule_of, roomy}
 use Rattle.formula.proofs.Walks.{both_true}
@@ -37,21 +40,24 @@ pub record MadeOf (t : LentTables) (forms bounds : List ℕ) (mem : Memory) (n :
   pub room : monitor_room forms bounds mem ≡ true
   pub is : made_monitor n (fresh_call t forms bounds mem) ≡ fresh_of t (monitor_of 0 forms bounds mem)
 
-given_inj : {a b : ℕ} → ◌≡◌ {A = Result ℕ} (given a) (given b) → a ≡ b
-given_inj e = cc
+ok_inj : {a b : ℕ} → ◌≡◌ {A = Returned ℕ Refusal} (Ok a) (Ok b) → a ≡ b
+ok_inj e = cc
+
+not_ok : {B : Type 0} {n : ℕ} {r : Refusal} → ◌≡◌ {A = Returned ℕ Refusal} (Err r) (Ok n) → B
+not_ok e = let z : ◌≡◌ {A = ℕ} 0 1 = cc in absurd (omega arith)
 
 not_given : {B : Type 0} {n k : ℕ} → ◌≡◌ {A = Result ℕ} (refused k) (given n) → B
 not_given e = let z : ◌≡◌ {A = ℕ} 0 1 = cc in absurd (omega arith)
 
 module _ (t : LentTables) (forms bounds : List ℕ) (mem : Memory) (n : ℕ) (m : Mon) (own : rule_mon t ≡ some m) where
-  made_by : (b : Bool) → lent_of t.ops t.nums t.nodes forms bounds mem ≡ b → (c : Making) → c ≡ or_short b forms bounds mem (make_mon (some m) t forms bounds mem) → c.answer ≡ given n → (n ≡ t.ncount) × HoldsRule t m × (monitor_room forms bounds mem ≡ true) × (made_monitor n c ≡ fresh_of t (monitor_of 0 forms bounds mem))
-  made_by false l c e q = not_given (sym (ap (λ (x : Making). x.answer) e) ∙ q)
+  made_by : (b : Bool) → lent_of t.ops t.nums t.nodes forms bounds mem ≡ b → (c : Making) → c ≡ or_short b forms bounds mem (make_mon (some m) t forms bounds mem) → c.answer ≡ Ok n → (n ≡ t.ncount) × HoldsRule t m × (monitor_room forms bounds mem ≡ true) × (made_monitor n c ≡ fresh_of t (monitor_of 0 forms bounds mem))
+  made_by false l c e q = not_ok (sym (ap (λ (x : Making). x.answer) e) ∙ q)
   made_by true l c e q =
-      let z : n ≡ t.ncount = given_inj (sym q ∙ ap (λ (x : Making). x.answer) e) in
+      let z : n ≡ t.ncount = ok_inj (sym q ∙ ap (λ (x : Making). x.answer) e) in
       let (x, y) = lent_parts t (monitor_of 0 forms bounds mem) l in
       (z, record { rule = own; room = x }, y, ap₂ made_monitor z e)
 
-  pub made_of : (fresh_call t forms bounds mem).answer ≡ given n → MadeOf t forms bounds mem n m
+  pub made_of : (fresh_call t forms bounds mem).answer ≡ Ok n → MadeOf t forms bounds mem n m
   unfolding fresh_call
   made_of q =
       let (a, b, c, d) = made_by (lent_of t.ops t.nums t.nodes forms bounds mem) refl (fresh_call t forms bounds mem) (ap (λ (o : Option Mon). or_short (lent_of t.ops t.nums t.nodes forms bounds mem) forms bounds mem (make_mon o t forms bounds mem)) own) q in
@@ -62,7 +68,7 @@ same_length : (o : Option Formula) (first : ℕ) (out : List ℕ) → length (co
 same_length none first out = refl
 same_length (some f) first out = go (rule_faults f)
   where
-    go : (fs : List ℕ) → length (first_or fs (rule_node f first) out).out ≡ length out
+    go : (fs : List Refusal) → length (first_or fs (rule_node f first) out).out ≡ length out
     go [] = length-sets out 0 (rows (rule_node f first))
     go (n ∷ ns) = refl
 

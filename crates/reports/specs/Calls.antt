@@ -4,7 +4,9 @@
 --     DemandThree   demand 3 of these calls, from the answers of `compile_formula` and `fresh` on
 use Rattle.std.specs.Prelude.{Bool, true, false, List, [], ◌∷◌, ◌≡◌, ℕ, ◌+◌}
 use Rattle.std.proofs.Math.Option.{Option, none, some}
-use Rattle.result.specs.Result.{Result, given, refused}
+use Rattle.std.specs.Prelude.{None, Option as Opt, Some, Result, Ok, Err}
+use Rattle.result.specs.Result.{given}
+use Rattle.result.specs.declared.Refusal.{Refusal}
 use Rattle.formula.specs.Formula.{Formula}
 use Rattle.formula.specs.Table.{rule_of}
 use Rattle.monitor.specs.Mon.{Mon}
@@ -39,21 +41,25 @@ abbrev pub asked : Event → List Call
 asked (step_event t s w) = accepted s w ∷ []
 asked (run_event t s ws) = in_turn s ws
 
--- where a result is given, all that was asked for was accepted
-abbrev pub calls_by : {A : Type 0} → Result A → List Call → List Call
-calls_by (given a) cs = cs
-calls_by (refused n) cs = calls.refused ∷ []
+-- where a call is not refused, all that was asked for was accepted
+abbrev pub calls_by : {A : Type 0} → Result A Refusal → List Call → List Call
+calls_by (Ok a) cs = cs
+calls_by (Err r) cs = calls.refused ∷ []
 
 -- a step call that is accepted and finds the rule newly broken reports its step
-abbrev pub step_report : Result Bool → ℕ → Option ℕ
-step_report (given true) s = some s
-step_report (given false) s = none
-step_report (refused n) s = none
+abbrev pub step_report : Result Bool Refusal → ℕ → Option ℕ
+step_report (Ok true) s = some s
+step_report (Ok false) s = none
+step_report (Err r) s = none
 
 -- a run names the step that it reports
-abbrev pub run_report : Result (Option ℕ) → Option ℕ
-run_report (given r) = r
-run_report (refused n) = none
+abbrev pub named : Opt ℕ → Option ℕ
+named (Some s) = some s
+named None = none
+
+abbrev pub run_report : Result (Opt ℕ) Refusal → Option ℕ
+run_report (Ok r) = named r
+run_report (Err r) = none
 
 abbrev pub event_calls : Event → LentMonitor → List Call
 event_calls (step_event t s w) k = calls_by (step_call t k s w).answer (accepted s w ∷ [])
@@ -96,6 +102,6 @@ abbrev pub DemandThree : Type 0
 DemandThree =
     (ops nums : List ℕ) (first count : ℕ) (f : Formula) → rule_of ops nums first count ≡ some f →
     (out : List ℕ) (n : ℕ) → (compile_call ops nums first count out).answer ≡ given n →
-    (forms bounds : List ℕ) (mem : Memory) → (fresh_call (compiled_tables ops nums first count out n) forms bounds mem).answer ≡ given n →
+    (forms bounds : List ℕ) (mem : Memory) → (fresh_call (compiled_tables ops nums first count out n) forms bounds mem).answer ≡ Ok n →
     Demand on_slices f (rule_node f first) (ReadsAs (rule_node f first))
     (made_monitor n (fresh_call (compiled_tables ops nums first count out n) forms bounds mem))

@@ -1,2 +1,3 @@
--- The result of a call.
+-- The result of a call, and why there is none.
+pub mod Refusal
 pub mod Result

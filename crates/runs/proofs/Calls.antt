@@ -3,7 +3,7 @@ use mathlib.Core.Path.{◌≡◌, refl, sym, ap, subst, ◌∙◌}
 use mathlib.Core.Bool.{Bool, true, false, ◌&&◌}
 use mathlib.Core.List.{List, [], ◌∷◌}
 use mathlib.Core.Logic.{◌⊎◌, inl, inr, ◌↔◌}
-use mathlib.Core.Option.{Option, some}
+use Rattle.std.specs.Prelude.{Option, Some, Result, Ok, Err}
 use Prim.Native.Nat.{ℕ, zero, suc, ◌+◌, ◌≤◌, ◌<◌}
 use native.Mathlib.Omega.{arith}
 use lib.Dec.{ltb}
@@ -11,7 +11,9 @@ use lib.ListN.{length}
 use borrow.Author.Tests.{le-ltb, lt-ltb, ltb-true}
 use Rattle.formula.proofs.Cases.{below_or, true_false}
 use Rattle.formula.proofs.Walks.{both_true}
-use Rattle.result.specs.Result.{Result, given, refused}
+use Rattle.result.specs.Refusal.{number_of}
+use Rattle.result.specs.declared.Refusal.{Refusal}
+use Rattle.result.specs.declared.Refusal.TheVariants.{Late}
 use Rattle.monitor.specs.Mon.{Mon}
 use Rattle.meaning.specs.State.{step, failed, newly_failed}
 use Rattle.meaning.proofs.Meaning.{stays_marked, reports_once}
@@ -23,79 +25,73 @@ use Rattle.stepping.proofs.Calling.{Went, refused_called, ready_called, went}
 use Rattle.stepping.proofs.Calling as calling
 use Rattle.stepping.proofs.Memories.{read_back}
 use Rattle.stepping.proofs.Staying.{inside_own, ready_call, stays_ready}
-use Rattle.runs.specs.Run.{answers_of, memory_after, report_among, many_steps, in_time, run_call, RunTaken, Accepts, Each, Some, Lowest, ReportsAt}
+use Rattle.runs.specs.Run.{Answer, answers_of, memory_after, report_among, many_steps, in_time, run_call, RunTaken, Accepts, Each, SomeOf, Lowest, ReportsAt}
 use Rattle.runs.proofs.Running.{below_in_time}
 
-given_inj : {x y : Option ℕ} → given x ≡ given y → x ≡ y
-given_inj e = cc
+ok_inj : {x y : Option ℕ} → ◌≡◌ {A = Result (Option ℕ) Refusal} (Ok x) (Ok y) → x ≡ y
+ok_inj e = cc
 
 -- ---- lists of answers
-pub meet : {P Q : Result Bool → Type 0} (vs : List (Result Bool)) → Some P vs → Each Q vs → (v : Result Bool) × P v × Q v
-unfolding Some Each
+pub meet : {P Q : Answer → Type 0} (vs : List Answer) → SomeOf P vs → Each Q vs → (v : Answer) × P v × Q v
+unfolding SomeOf Each
 meet [] p q = absurd p
 meet (v ∷ vs) (inl p) q = (v, p, q.0)
 meet (v ∷ vs) (inr p) q = meet vs p q.1
 
-pub each_map : {P Q : Result Bool → Type 0} → ((v : Result Bool) → P v → Q v) → (vs : List (Result Bool)) → Each P vs → Each Q vs
+pub each_map : {P Q : Answer → Type 0} → ((v : Answer) → P v → Q v) → (vs : List Answer) → Each P vs → Each Q vs
 unfolding Each
 each_map f [] h = tt
 each_map f (v ∷ vs) h = (f v h.0, each_map f vs h.1)
 
-none_at : (vs : List (Result Bool)) → Each (λ v. v ≡ given true → ⊥) vs → (i : ℕ) → ReportsAt vs i → ⊥
+none_at : (vs : List Answer) → Each (λ v. v ≡ Ok true → ⊥) vs → (i : ℕ) → ReportsAt vs i → ⊥
 unfolding Each
 none_at [] h i p = let z : ◌≡◌ {A = ℕ} 0 1 = cc in omega arith
 none_at (v ∷ vs) h zero p = h.0 p
 none_at (v ∷ vs) h (suc i) p = none_at vs h.1 i p
 
-pub reports_inside : (t : LentTables) (ws : List ℕ) (k : LentMonitor) (s i : ℕ) → ReportsAt (answers_of t k s ws) i → i < length ws
-unfolding answers_of
-reports_inside t [] k s i h = let z : ◌≡◌ {A = ℕ} 0 1 = cc in absurd (omega arith)
-reports_inside t (w ∷ ws) k s zero h = omega arith
-reports_inside t (w ∷ ws) k s (suc i) h = let z = reports_inside t ws (with k (step_call t k s w).memory) (s + 1) i h in omega arith
-
 -- the first report is one of them, and where there is one there is a first
-pub record FoundAt (vs : List (Result Bool)) (s n : ℕ) : Type 0 where
+pub record FoundAt (vs : List Answer) (s n : ℕ) : Type 0 where
   pub at_word : ℕ
   pub step_is : n ≡ s + at_word
   pub reports : ReportsAt vs at_word
 
-found_later : (v : Result Bool) (vs : List (Result Bool)) (s n : ℕ) → FoundAt vs (s + 1) n → FoundAt (v ∷ vs) s n
+found_later : (v : Answer) (vs : List Answer) (s n : ℕ) → FoundAt vs (s + 1) n → FoundAt (v ∷ vs) s n
 found_later v vs s n f = record { at_word = suc f.at_word; step_is = omega (arith, f.step_is); reports = f.reports }
 
-pub found : (vs : List (Result Bool)) (s n : ℕ) → report_among s vs ≡ some n → FoundAt vs s n
+pub found : (vs : List Answer) (s n : ℕ) → report_among s vs ≡ Some n → FoundAt vs s n
 unfolding report_among
 found [] s n e = let z : ◌≡◌ {A = ℕ} 0 1 = cc in absurd (omega arith)
-found (given true ∷ vs) s n e = let z : s ≡ n = cc in record { at_word = 0; step_is = omega arith; reports = refl }
-found (given false ∷ vs) s n e = found_later (given false) vs s n (found vs (s + 1) n e)
-found (refused m ∷ vs) s n e = found_later (refused m) vs s n (found vs (s + 1) n e)
+found (Ok true ∷ vs) s n e = let z : s ≡ n = cc in record { at_word = 0; step_is = omega arith; reports = refl }
+found (Ok false ∷ vs) s n e = found_later (Ok false) vs s n (found vs (s + 1) n e)
+found (Err m ∷ vs) s n e = found_later (Err m) vs s n (found vs (s + 1) n e)
 
-pub finds : (vs : List (Result Bool)) (s i : ℕ) → ReportsAt vs i → (n : ℕ) × (report_among s vs ≡ some n)
+pub finds : (vs : List Answer) (s i : ℕ) → ReportsAt vs i → (n : ℕ) × (report_among s vs ≡ Some n)
 unfolding report_among
 finds [] s i e = let z : ◌≡◌ {A = ℕ} 0 1 = cc in absurd (omega arith)
-finds (given true ∷ vs) s i e = (s, refl)
-finds (given false ∷ vs) s zero e = let z : false ≡ true = cc in true_false z refl
-finds (given false ∷ vs) s (suc i) e = finds vs (s + 1) i e
-finds (refused m ∷ vs) s zero e = let z : ◌≡◌ {A = ℕ} 0 1 = cc in absurd (omega arith)
-finds (refused m ∷ vs) s (suc i) e = finds vs (s + 1) i e
+finds (Ok true ∷ vs) s i e = (s, refl)
+finds (Ok false ∷ vs) s zero e = let z : false ≡ true = cc in true_false z refl
+finds (Ok false ∷ vs) s (suc i) e = finds vs (s + 1) i e
+finds (Err m ∷ vs) s zero e = let z : ◌≡◌ {A = ℕ} 0 1 = cc in absurd (omega arith)
+finds (Err m ∷ vs) s (suc i) e = finds vs (s + 1) i e
 
 -- ---- where each call is refused with the same number
-pub all_refused : (t : LentTables) (k : LentMonitor) (n : ℕ) → ((s w : ℕ) → step_call t k s w ≡ refuse n k.memory) → (ws : List ℕ) (s : ℕ)
-    → Each (λ v. v ≡ refused n) (answers_of t k s ws)
+pub all_refused : (t : LentTables) (k : LentMonitor) (n : Refusal) → ((s w : ℕ) → step_call t k s w ≡ refuse n k.memory) → (ws : List ℕ) (s : ℕ)
+    → Each (λ v. v ≡ Err n) (answers_of t k s ws)
 unfolding Each answers_of
 all_refused t k n h [] s = tt
 all_refused t k n h (w ∷ ws) s = (
   ap (λ (c : Effect Bool). c.answer) (h s w),
-  subst (λ (c : Effect Bool). Each (λ v. v ≡ refused n) (answers_of t (with k c.memory) (s + 1) ws)) (sym (h s w)) (all_refused t k n h ws (s + 1)),
+  subst (λ (c : Effect Bool). Each (λ v. v ≡ Err n) (answers_of t (with k c.memory) (s + 1) ws)) (sym (h s w)) (all_refused t k n h ws (s + 1)),
 )
 
 -- ---- a monitor that fits its rule's table: its calls are accepted below 2^63, and refused with 24 from there on
 module _ (t : LentTables) (m : Mon) (a : HoldsRule t m) where
-  late_call : (k : LentMonitor) → Ready k m → (s w : ℕ) → 9223372036854775808 ≤ s → step_call t k s w ≡ refuse 24 k.memory
-  late_call k d s w h = ready_call t k m a d s w ∙ ap (λ (b : Bool). or_refuse b 24 k.memory (accept m k.memory s w)) (le-ltb s 9223372036854775808 h)
+  late_call : (k : LentMonitor) → Ready k m → (s w : ℕ) → 9223372036854775808 ≤ s → step_call t k s w ≡ refuse Late k.memory
+  late_call k d s w h = ready_call t k m a d s w ∙ ap (λ (b : Bool). or_refuse b Late k.memory (accept m k.memory s w)) (le-ltb s 9223372036854775808 h)
 
   data Called (k : LentMonitor) (s w : ℕ) : Type 0 where
     taken : step_call t k s w ≡ accept m k.memory s w → Ready (with k (step_call t k s w).memory) m → Called k s w
-    too_late : step_call t k s w ≡ refuse 24 k.memory → Called k s w
+    too_late : step_call t k s w ≡ refuse Late k.memory → Called k s w
 
   called : (k : LentMonitor) → Ready k m → (s w : ℕ) → Called k s w
   called k d s w = go (below_or s 9223372036854775808)
@@ -116,30 +112,30 @@ module _ (t : LentTables) (m : Mon) (a : HoldsRule t m) where
       let x = stays_ready t k m a d s w (ltb-true s 9223372036854775808 now) in
       ((newly_failed m (read_mon m k.memory 0) s w, ap (λ (c : Effect Bool). c.answer) x.accepted), all_accept ws (with k (step_call t k s w).memory) (s + 1) x.again later)
 
-  only_late : (k : LentMonitor) (s w : ℕ) → Called k s w → (n : ℕ) → (step_call t k s w).answer ≡ refused n → n ≡ 24
+  only_late : (k : LentMonitor) (s w : ℕ) → Called k s w → (n : Refusal) → (step_call t k s w).answer ≡ Err n → n ≡ Late
   only_late k s w (taken e r) n q =
-      let p : (step_call t k s w).answer ≡ given (newly_failed m (read_mon m k.memory 0) s w) = ap (λ (c : Effect Bool). c.answer) e in
+      let p : (step_call t k s w).answer ≡ Ok (newly_failed m (read_mon m k.memory 0) s w) = ap (λ (c : Effect Bool). c.answer) e in
       let z : ◌≡◌ {A = ℕ} 0 1 = cc in
       absurd (omega arith)
-  only_late k s w (too_late e) n q = let p : (step_call t k s w).answer ≡ refused 24 = ap (λ (c : Effect Bool). c.answer) e in cc
+  only_late k s w (too_late e) n q = let p : (step_call t k s w).answer ≡ Err Late = ap (λ (c : Effect Bool). c.answer) e in cc
 
-  pub each_late : (ws : List ℕ) (k : LentMonitor) (s : ℕ) → Ready k m → Each (λ v. (n : ℕ) → v ≡ refused n → n ≡ 24) (answers_of t k s ws)
+  pub each_late : (ws : List ℕ) (k : LentMonitor) (s : ℕ) → Ready k m → Each (λ v. (n : Refusal) → v ≡ Err n → n ≡ Late) (answers_of t k s ws)
   unfolding Each answers_of
   each_late [] k s d = tt
   each_late (w ∷ ws) k s d = (only_late k s w (called k d s w), each_late ws (with k (step_call t k s w).memory) (s + 1) (ready_on k d s w (called k d s w)))
 
-  late_or_rest : (k : LentMonitor) → Ready k m → (s w : ℕ) (rest : Bool) (R : Type 0) → (rest ≡ false → R) → (ltb s 9223372036854775808 && rest) ≡ false → ((step_call t k s w).answer ≡ refused 24) ⊎ R
+  late_or_rest : (k : LentMonitor) → Ready k m → (s w : ℕ) (rest : Bool) (R : Type 0) → (rest ≡ false → R) → (ltb s 9223372036854775808 && rest) ≡ false → ((step_call t k s w).answer ≡ Err Late) ⊎ R
   late_or_rest k d s w rest R f h = go (below_or s 9223372036854775808) (ltb s 9223372036854775808) refl h
     where
-      go : (s < 9223372036854775808) ⊎ (9223372036854775808 ≤ s) → (b : Bool) → ltb s 9223372036854775808 ≡ b → (b && rest) ≡ false → ((step_call t k s w).answer ≡ refused 24) ⊎ R
+      go : (s < 9223372036854775808) ⊎ (9223372036854775808 ≤ s) → (b : Bool) → ltb s 9223372036854775808 ≡ b → (b && rest) ≡ false → ((step_call t k s w).answer ≡ Err Late) ⊎ R
       go (inr l) b e g = inl (ap (λ (c : Effect Bool). c.answer) (late_call k d s w l))
       go (inl l) true e g = inr (f g)
       go (inl l) false e g = true_false (lt-ltb s 9223372036854775808 l) e
 
-  pub some_late : (ws : List ℕ) (k : LentMonitor) (s : ℕ) → Ready k m → in_time s ws ≡ false → Some (λ v. v ≡ refused 24) (answers_of t k s ws)
-  unfolding Some answers_of in_time
+  pub some_late : (ws : List ℕ) (k : LentMonitor) (s : ℕ) → Ready k m → in_time s ws ≡ false → SomeOf (λ v. v ≡ Err Late) (answers_of t k s ws)
+  unfolding SomeOf answers_of in_time
   some_late [] k s d h = true_false refl h
-  some_late (w ∷ ws) k s d h = late_or_rest k d s w (in_time (s + 1) ws) (Some (λ v. v ≡ refused 24) (answers_of t (with k (step_call t k s w).memory) (s + 1) ws)) (λ e. some_late ws (with k (step_call t k s w).memory) (s + 1) (ready_on k d s w (called k d s w)) e) h
+  some_late (w ∷ ws) k s d h = late_or_rest k d s w (in_time (s + 1) ws) (SomeOf (λ v. v ≡ Err Late) (answers_of t (with k (step_call t k s w).memory) (s + 1) ws)) (λ e. some_late ws (with k (step_call t k s w).memory) (s + 1) (ready_on k d s w (called k d s w)) e) h
 
   -- ---- a failed root stays so, and reports no more
   abbrev Marked : Memory → Type 0
@@ -154,32 +150,32 @@ module _ (t : LentTables) (m : Mon) (a : HoldsRule t m) where
   marked_on k d s w (taken e r) f = ap (failed m) (taken_reads k d s w e) ∙ stays_marked m (read_mon m k.memory 0) s w f
   marked_on k d s w (too_late e) f = subst (λ (c : Effect Bool). Marked c.memory) (sym e) f
 
-  marks : (k : LentMonitor) → Ready k m → (s w : ℕ) → Called k s w → (step_call t k s w).answer ≡ given true → Marked (step_call t k s w).memory
+  marks : (k : LentMonitor) → Ready k m → (s w : ℕ) → Called k s w → (step_call t k s w).answer ≡ Ok true → Marked (step_call t k s w).memory
   marks k d s w (taken e r) q =
-      let p : (step_call t k s w).answer ≡ given (newly_failed m (read_mon m k.memory 0) s w) = ap (λ (c : Effect Bool). c.answer) e in
+      let p : (step_call t k s w).answer ≡ Ok (newly_failed m (read_mon m k.memory 0) s w) = ap (λ (c : Effect Bool). c.answer) e in
       let n : newly_failed m (read_mon m k.memory 0) s w ≡ true = cc in
       ap (failed m) (taken_reads k d s w e) ∙ (both_true (failed m (step m (read_mon m k.memory 0) s w).state) _ n).0
   marks k d s w (too_late e) q =
-      let p : (step_call t k s w).answer ≡ refused 24 = ap (λ (c : Effect Bool). c.answer) e in
+      let p : (step_call t k s w).answer ≡ Err Late = ap (λ (c : Effect Bool). c.answer) e in
       let z : ◌≡◌ {A = ℕ} 0 1 = cc in
       absurd (omega arith)
 
-  silent : (k : LentMonitor) → (s w : ℕ) → Called k s w → Marked k.memory → (step_call t k s w).answer ≡ given true → ⊥
+  silent : (k : LentMonitor) → (s w : ℕ) → Called k s w → Marked k.memory → (step_call t k s w).answer ≡ Ok true → ⊥
   silent k s w (taken e r) f q =
-      let p : (step_call t k s w).answer ≡ given (newly_failed m (read_mon m k.memory 0) s w) = ap (λ (c : Effect Bool). c.answer) e in
+      let p : (step_call t k s w).answer ≡ Ok (newly_failed m (read_mon m k.memory 0) s w) = ap (λ (c : Effect Bool). c.answer) e in
       let n : newly_failed m (read_mon m k.memory 0) s w ≡ true = cc in
       true_false n (reports_once m (read_mon m k.memory 0) s w f)
   silent k s w (too_late e) f q =
-      let p : (step_call t k s w).answer ≡ refused 24 = ap (λ (c : Effect Bool). c.answer) e in
+      let p : (step_call t k s w).answer ≡ Err Late = ap (λ (c : Effect Bool). c.answer) e in
       let z : ◌≡◌ {A = ℕ} 0 1 = cc in
       omega arith
 
-  quiet_on : (ws : List ℕ) (k : LentMonitor) (s : ℕ) → Ready k m → Marked k.memory → Each (λ v. v ≡ given true → ⊥) (answers_of t k s ws)
+  quiet_on : (ws : List ℕ) (k : LentMonitor) (s : ℕ) → Ready k m → Marked k.memory → Each (λ v. v ≡ Ok true → ⊥) (answers_of t k s ws)
   unfolding Each answers_of
   quiet_on [] k s d f = tt
   quiet_on (w ∷ ws) k s d f = (silent k s w (called k d s w) f, quiet_on ws (with k (step_call t k s w).memory) (s + 1) (ready_on k d s w (called k d s w)) (marked_on k d s w (called k d s w) f))
 
-  none_after : (k : LentMonitor) (s w : ℕ) (ws : List ℕ) → Ready k m → (step_call t k s w).answer ≡ given true → (i : ℕ) → ReportsAt (answers_of t (with k (step_call t k s w).memory) (s + 1) ws) i → ⊥
+  none_after : (k : LentMonitor) (s w : ℕ) (ws : List ℕ) → Ready k m → (step_call t k s w).answer ≡ Ok true → (i : ℕ) → ReportsAt (answers_of t (with k (step_call t k s w).memory) (s + 1) ws) i → ⊥
   none_after k s w ws d q = none_at _ (quiet_on ws (with k (step_call t k s w).memory) (s + 1) (ready_on k d s w (called k d s w)) (marks k d s w (called k d s w) q))
 
   pub once : (ws : List ℕ) (k : LentMonitor) (s : ℕ) → Ready k m → (i j : ℕ) → ReportsAt (answers_of t k s ws) i → ReportsAt (answers_of t k s ws) j → i ≡ j
@@ -200,12 +196,12 @@ module _ (t : LentTables) (m : Mon) (a : HoldsRule t m) where
   unfolding run_call
   ready_runs ws k s d h =
       ready_called t k (in_time s ws) (λ n. many_steps t k s ws) m a d
-      ∙ ap (λ (b : Bool). or_refuse b 24 k.memory (many_steps t k s ws)) (below_in_time s ws h)
+      ∙ ap (λ (b : Bool). or_refuse b Late k.memory (many_steps t k s ws)) (below_in_time s ws h)
 
 -- ---- the three ways that a run goes
 pub data Case (t : LentTables) (k : LentMonitor) (s : ℕ) (ws : List ℕ) (c : Effect (Option ℕ)) : Type 0 where
-  stops : (n : ℕ) → ((i w : ℕ) → step_call t k i w ≡ refuse n k.memory) → c ≡ refuse n k.memory → Case t k s ws c
-  late : (m : Mon) → HoldsRule t m → Ready k m → in_time s ws ≡ false → c ≡ refuse 24 k.memory → Case t k s ws c
+  stops : (n : Refusal) → ((i w : ℕ) → step_call t k i w ≡ refuse n k.memory) → c ≡ refuse n k.memory → Case t k s ws c
+  late : (m : Mon) → HoldsRule t m → Ready k m → in_time s ws ≡ false → c ≡ refuse Late k.memory → Case t k s ws c
   goes : (m : Mon) → HoldsRule t m → Ready k m → in_time s ws ≡ true → c ≡ many_steps t k s ws → Case t k s ws c
 
 pub case_of : (t : LentTables) (k : LentMonitor) (s : ℕ) (ws : List ℕ) → Case t k s ws (run_call t k s ws)
@@ -213,7 +209,7 @@ unfolding run_call step_call
 case_of t k s ws = go (went t k (in_time s ws) (λ m. many_steps t k s ws))
   where
     go : Went t k (in_time s ws) (λ m. many_steps t k s ws) (run_call t k s ws) → Case t k s ws (run_call t k s ws)
-    go (calling.stops n e q) = stops (suc n) (λ i w. refused_called t k (ltb i 9223372036854775808) (λ m. accept m k.memory i w) (suc n) e (λ z. omega arith)) q
+    go (calling.stops n e q) = stops n (λ i w. refused_called t k (ltb i 9223372036854775808) (λ m. accept m k.memory i w) n e) q
     go (calling.late m a d h q) = late m a d h q
     go (calling.goes m a d h q) = goes m a d h q
 
@@ -226,21 +222,21 @@ module _ (t : LentTables) (k : LentMonitor) (s : ℕ) (ws : List ℕ) where
 
   pub taken_is : Case t k s ws run → RunTaken run → run ≡ many_steps t k s ws
   taken_is (stops n f e) h = absurd (h n (answer_is _ e))
-  taken_is (late m a d i e) h = absurd (h 24 (answer_is _ e))
+  taken_is (late m a d i e) h = absurd (h Late (answer_is _ e))
   taken_is (goes m a d i e) h = e
 
   pub taken_accepts : Case t k s ws run → RunTaken run → Each Accepts (answers_of t k s ws)
   taken_accepts (stops n f e) h = absurd (h n (answer_is _ e))
-  taken_accepts (late m a d i e) h = absurd (h 24 (answer_is _ e))
+  taken_accepts (late m a d i e) h = absurd (h Late (answer_is _ e))
   taken_accepts (goes m a d i e) h = all_accept t m a ws k s d i
 
   pub goes_taken : run ≡ many_steps t k s ws → RunTaken run
   goes_taken e n h =
-      let p : run.answer ≡ given (report_among s (answers_of t k s ws)) = answer_is _ e in
+      let p : run.answer ≡ Ok (report_among s (answers_of t k s ws)) = answer_is _ e in
       let z : ◌≡◌ {A = ℕ} 0 1 = cc in
       omega arith
 
-  pub untouched : Case t k s ws run → (n : ℕ) → run.answer ≡ refused n → run.memory ≡ k.memory
+  pub untouched : Case t k s ws run → (n : Refusal) → run.answer ≡ Err n → run.memory ≡ k.memory
   untouched (stops m f e) n h = ap (λ (c : Effect (Option ℕ)). c.memory) e
   untouched (late m a d i e) n h = ap (λ (c : Effect (Option ℕ)). c.memory) e
   untouched (goes m a d i e) n h = absurd (goes_taken e n h)
@@ -250,59 +246,59 @@ module _ (t : LentTables) (k : LentMonitor) (s : ℕ) (ws : List ℕ) where
   at_most_once (late m a d l e) i j p q = once t m a ws k s d i j p q
   at_most_once (goes m a d l e) i j p q = once t m a ws k s d i j p q
 
-  reported_by : run ≡ many_steps t k s ws → Case t k s ws run → (i : ℕ) → run.answer ≡ given (some (s + i)) → ReportsAt (answers_of t k s ws) i
+  reported_by : run ≡ many_steps t k s ws → Case t k s ws run → (i : ℕ) → run.answer ≡ Ok (Some (s + i)) → ReportsAt (answers_of t k s ws) i
   reported_by e x i h =
-      let f = found (answers_of t k s ws) s (s + i) (given_inj (sym (answer_is _ e) ∙ h)) in
+      let f = found (answers_of t k s ws) s (s + i) (ok_inj (sym (answer_is _ e) ∙ h)) in
       let z : f.at_word ≡ i = omega (arith, f.step_is) in
       subst (ReportsAt (answers_of t k s ws)) z f.reports
 
-  reports_by : run ≡ many_steps t k s ws → Case t k s ws run → (i : ℕ) → ReportsAt (answers_of t k s ws) i → run.answer ≡ given (some (s + i))
+  reports_by : run ≡ many_steps t k s ws → Case t k s ws run → (i : ℕ) → ReportsAt (answers_of t k s ws) i → run.answer ≡ Ok (Some (s + i))
   reports_by e x i h =
       let (n, q) = finds (answers_of t k s ws) s i h in
       let f = found (answers_of t k s ws) s n q in
       let z : f.at_word ≡ i = at_most_once x f.at_word i f.reports h in
-      answer_is _ e ∙ ap given (q ∙ ap some (f.step_is ∙ ap (s +◌) z))
+      answer_is _ e ∙ ap Ok (q ∙ ap Some (f.step_is ∙ ap (s +◌) z))
 
-  pub reported : Case t k s ws run → (i : ℕ) → (run.answer ≡ given (some (s + i))) ↔ (RunTaken run × ReportsAt (answers_of t k s ws) i)
+  pub reported : Case t k s ws run → (i : ℕ) → (run.answer ≡ Ok (Some (s + i))) ↔ (RunTaken run × ReportsAt (answers_of t k s ws) i)
   reported x i = (
     λ h. let g : RunTaken run = λ n z. let y : ◌≡◌ {A = ℕ} 0 1 = cc in omega arith in (g, reported_by (taken_is x g) x i h),
     λ (g, h). reports_by (taken_is x g) x i h,
   )
 
 module _ (t : LentTables) (k : LentMonitor) (s w : ℕ) (ws : List ℕ) where
-  abbrev vs : List (Result Bool)
+  abbrev vs : List Answer
   vs = answers_of t k s (w ∷ ws)
 
-  lowest_all : (n : ℕ) → Each (λ v. v ≡ refused n) vs → Lowest n vs
-  unfolding Each Some answers_of
-  lowest_all n h = record { given = inl h.0; least = each_map (λ v e m q. let z : n ≡ m = cc in omega arith) vs h }
+  lowest_all : (n : Refusal) → Each (λ v. v ≡ Err n) vs → Lowest n vs
+  unfolding Each SomeOf answers_of
+  lowest_all n h = record { given = inl h.0; least = each_map (λ v e m q. let z : n ≡ m = cc in let y : number_of n ≡ number_of m = ap number_of z in omega arith) vs h }
 
-  pub refused_where : Case t k s (w ∷ ws) (run_call t k s (w ∷ ws)) → (n : ℕ) → ((run_call t k s (w ∷ ws)).answer ≡ refused n) ↔ Lowest n vs
+  pub refused_where : Case t k s (w ∷ ws) (run_call t k s (w ∷ ws)) → (n : Refusal) → ((run_call t k s (w ∷ ws)).answer ≡ Err n) ↔ Lowest n vs
   refused_where (stops a f e) n =
-      let r : (run_call t k s (w ∷ ws)).answer ≡ refused a = ap (λ (c : Effect (Option ℕ)). c.answer) e in
+      let r : (run_call t k s (w ∷ ws)).answer ≡ Err a = ap (λ (c : Effect (Option ℕ)). c.answer) e in
       let g = all_refused t k a f (w ∷ ws) s in (
-        λ h. let z : a ≡ n = cc in subst (λ (b : ℕ). Lowest b vs) z (lowest_all a g),
-        λ l. let (v, p, q) = meet {P = λ v. v ≡ refused n} {Q = λ v. v ≡ refused a} vs l.given g in let z : a ≡ n = cc in r ∙ ap refused z,
+        λ h. let z : a ≡ n = cc in subst (λ (b : Refusal). Lowest b vs) z (lowest_all a g),
+        λ l. let (v, p, q) = meet {P = λ v. v ≡ Err n} {Q = λ v. v ≡ Err a} vs l.given g in let z : a ≡ n = cc in r ∙ ap Err z,
       )
   refused_where (late m a d i e) n =
-      let r : (run_call t k s (w ∷ ws)).answer ≡ refused 24 = ap (λ (c : Effect (Option ℕ)). c.answer) e in
+      let r : (run_call t k s (w ∷ ws)).answer ≡ Err Late = ap (λ (c : Effect (Option ℕ)). c.answer) e in
       let g = each_late t m a (w ∷ ws) k s d in (
-        λ h. let z : 24 ≡ n = cc in subst (λ (b : ℕ). Lowest b vs) z (record { given = some_late t m a (w ∷ ws) k s d i; least = each_map (λ v x b q. let y = x b q in omega arith) vs g }),
-        λ l. let (v, p, q) = meet {P = λ v. v ≡ refused n} {Q = λ v. (b : ℕ) → v ≡ refused b → b ≡ 24} vs l.given g in r ∙ ap refused (sym (q n p)),
+        λ h. let z : Late ≡ n = cc in subst (λ (b : Refusal). Lowest b vs) z (record { given = some_late t m a (w ∷ ws) k s d i; least = each_map (λ v x b q. let y : number_of b ≡ number_of Late = ap number_of (x b q) in omega arith) vs g }),
+        λ l. let (v, p, q) = meet {P = λ v. v ≡ Err n} {Q = λ v. (b : Refusal) → v ≡ Err b → b ≡ Late} vs l.given g in r ∙ ap Err (sym (q n p)),
       )
   refused_where (goes m a d i e) n =
       let g = all_accept t m a (w ∷ ws) k s d i in (
         λ h. absurd (goes_taken t k s (w ∷ ws) e n h),
-        λ l. let (v, p, q) = meet {P = λ v. v ≡ refused n} {Q = Accepts} vs l.given g in let (b, a) = q in let z : ◌≡◌ {A = ℕ} 0 1 = cc in absurd (omega arith),
+        λ l. let (v, p, q) = meet {P = λ v. v ≡ Err n} {Q = Accepts} vs l.given g in let (b, a) = q in let z : ◌≡◌ {A = ℕ} 0 1 = cc in absurd (omega arith),
       )
 
-  pub refused_first : Case t k s (w ∷ ws) (run_call t k s (w ∷ ws)) → (n : ℕ) → (run_call t k s (w ∷ ws)).answer ≡ refused n → ((step_call t k s w).answer ≡ refused n) ⊎ (n ≡ 24)
+  pub refused_first : Case t k s (w ∷ ws) (run_call t k s (w ∷ ws)) → (n : Refusal) → (run_call t k s (w ∷ ws)).answer ≡ Err n → ((step_call t k s w).answer ≡ Err n) ⊎ (n ≡ Late)
   refused_first (stops a f e) n h =
-      let r : (run_call t k s (w ∷ ws)).answer ≡ refused a = ap (λ (c : Effect (Option ℕ)). c.answer) e in
+      let r : (run_call t k s (w ∷ ws)).answer ≡ Err a = ap (λ (c : Effect (Option ℕ)). c.answer) e in
       let z : a ≡ n = cc in
-      inl (ap (λ (c : Effect Bool). c.answer) (f s w) ∙ ap refused z)
+      inl (ap (λ (c : Effect Bool). c.answer) (f s w) ∙ ap Err z)
   refused_first (late m a d i e) n h =
-      let r : (run_call t k s (w ∷ ws)).answer ≡ refused 24 = ap (λ (c : Effect (Option ℕ)). c.answer) e in
+      let r : (run_call t k s (w ∷ ws)).answer ≡ Err Late = ap (λ (c : Effect (Option ℕ)). c.answer) e in
       inr (cc)
   refused_first (goes m a d i e) n h = absurd (goes_taken t k s (w ∷ ws) e n h)
 

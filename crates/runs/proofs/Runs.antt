@@ -11,11 +11,12 @@
 use mathlib.Core.Path.{◌≡◌}
 use mathlib.Core.List.{List, [], ◌∷◌}
 use mathlib.Core.Logic.{◌⊎◌, ◌↔◌}
-use mathlib.Core.Option.{some}
+use Rattle.std.specs.Prelude.{Some, Ok, Err}
 use Prim.Native.Nat.{ℕ, ◌+◌, ◌≤◌}
 use lib.ListN.{length}
 use Rattle.monitor.specs.Mon.{Mon}
-use Rattle.result.specs.Result.{given, refused}
+use Rattle.result.specs.declared.Refusal.{Refusal}
+use Rattle.result.specs.declared.Refusal.TheVariants.{Late}
 use Rattle.lent.specs.Lent.{LentTables, LentMonitor, HoldsRule, Ready}
 use Rattle.stepping.specs.Call.{step_call}
 use Rattle.runs.specs.Run.{answers_of, many_steps, run_call, RunTaken, Accepts, Each, Lowest, ReportsAt}
@@ -29,13 +30,13 @@ module _ (t : LentTables) (k : LentMonitor) (s : ℕ) (ws : List ℕ) where
   pub all_accepted : RunTaken (run_call t k s ws) → Each Accepts (answers_of t k s ws)
   all_accepted h = calls.taken_accepts t k s ws (case_of t k s ws) h
 
-  pub refused_untouched : (n : ℕ) → (run_call t k s ws).answer ≡ refused n → (run_call t k s ws).memory ≡ k.memory
-  refused_untouched n h = calls.untouched t k s ws (case_of t k s ws) n h
+  pub refused_untouched : (r : Refusal) → (run_call t k s ws).answer ≡ Err r → (run_call t k s ws).memory ≡ k.memory
+  refused_untouched r h = calls.untouched t k s ws (case_of t k s ws) r h
 
   pub reports_once : (i j : ℕ) → ReportsAt (answers_of t k s ws) i → ReportsAt (answers_of t k s ws) j → i ≡ j
   reports_once i j p q = calls.at_most_once t k s ws (case_of t k s ws) i j p q
 
-  pub reported_iff : (i : ℕ) → ((run_call t k s ws).answer ≡ given (some (s + i))) ↔ (RunTaken (run_call t k s ws) × ReportsAt (answers_of t k s ws) i)
+  pub reported_iff : (i : ℕ) → ((run_call t k s ws).answer ≡ Ok (Some (s + i))) ↔ (RunTaken (run_call t k s ws) × ReportsAt (answers_of t k s ws) i)
   reported_iff i = calls.reported t k s ws (case_of t k s ws) i
 
   pub fits_again : (m : Mon) → HoldsRule t m → Ready k m → s + length ws ≤ 9223372036854775808 → RunStays t k m s ws
@@ -45,8 +46,8 @@ pub no_words : (t : LentTables) (k : LentMonitor) (s other : ℕ) → run_call t
 no_words t k s other = calls.without_words t k s other
 
 module _ (t : LentTables) (k : LentMonitor) (s w : ℕ) (ws : List ℕ) where
-  pub refused_iff : (n : ℕ) → ((run_call t k s (w ∷ ws)).answer ≡ refused n) ↔ Lowest n (answers_of t k s (w ∷ ws))
-  refused_iff n = calls.refused_where t k s w ws (case_of t k s (w ∷ ws)) n
+  pub refused_iff : (r : Refusal) → ((run_call t k s (w ∷ ws)).answer ≡ Err r) ↔ Lowest r (answers_of t k s (w ∷ ws))
+  refused_iff r = calls.refused_where t k s w ws (case_of t k s (w ∷ ws)) r
 
-  pub refused_by : (n : ℕ) → (run_call t k s (w ∷ ws)).answer ≡ refused n → ((step_call t k s w).answer ≡ refused n) ⊎ (n ≡ 24)
-  refused_by n h = calls.refused_first t k s w ws (case_of t k s (w ∷ ws)) n h
+  pub refused_by : (r : Refusal) → (run_call t k s (w ∷ ws)).answer ≡ Err r → ((step_call t k s w).answer ≡ Err r) ⊎ (r ≡ Late)
+  refused_by r h = calls.refused_first t k s w ws (case_of t k s (w ∷ ws)) r h

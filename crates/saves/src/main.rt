@@ -16,127 +16,55 @@
 #![tactic(auto)]
 
 mod attempt;
-mod call;
 mod misuse;
 mod off;
+mod places;
 mod rule;
 mod short;
 mod show;
 
-ghost use Rattle.std.specs.Prelude.{◌≤◌, ◌<◌};
+ghost use Rattle.std.specs.Prelude.{◌<◌};
 ghost use Rattle.terms.specs.Limits.{book_rules};
 
-use crate::call::Part;
-use crate::rule::run_rule;
-use crate::show::show_refused;
-use compiler::{Compiled, compile_formula};
+use crate::places::run_rule;
+use crate::rule::Rule;
 use input::{TEXT_ROOM, read_full};
-use reader::read::{Answer, read_book};
+use monitor::table::{Part, Tables};
+use opened::{Book, open_book};
 use std::io;
-use terms::limit::{BOOK_CELLS, BOOK_NODES, BOOK_RULES, BOOK_SLOTS, LABELS_ROOM, NAMES_ROOM};
-
-// Compiles the rule at `first` into the rows from row `first` on.
-fn compile_at(ops: &[u8], nums: &[u64], first: usize, count: usize, nodes: &mut [u64]) -> Compiled {
-    if BOOK_NODES < first {
-        return Compiled::Refused(2);
-    }
-    let from = 7 * first;
-    if nodes.len() < from {
-        return Compiled::Refused(1);
-    }
-    compile_formula(ops, nums, first, count, &mut nodes[from..])
-}
+use terms::limit::BOOK_CELLS;
 
 // Rule r, if it compiles.
-fn run_one(
-    rt: &impl Print,
-    text: &[u8],
-    steps_at: usize,
-    ops: &[u8],
-    nums: &[u64],
-    firsts: &[usize; BOOK_RULES],
-    counts: &[usize; BOOK_RULES],
-    r: usize,
-) -> io::Result<()>
-    requires { r < 64 }
+fn run_one(rt: &impl Print, text: &[u8], book: &Book, r: usize) -> io::Result<()>
+    requires { r < book_rules }
 {
     let mut nodes = [0u64; BOOK_CELLS];
-    let first = firsts[r];
-    let count = counts[r];
-    let answer = compile_at(ops, nums, first, count, &mut nodes);
-    let Compiled::Nodes(ncount) = answer else {
+    let Ok(ncount) = book.compile(r, &mut nodes) else {
         return Ok(());
     };
-    let p = Part {
-        first,
-        count,
-        nfirst: first,
-        ncount,
+    let rule = Rule {
+        number: r,
+        tables: Tables::new(&book.ops, &book.nums, &nodes),
+        part: Part {
+            first: book.firsts[r],
+            count: book.counts[r],
+            nfirst: book.firsts[r],
+            ncount,
+        },
     };
-    run_rule(rt, text, steps_at, ops, nums, &nodes, p, r)
-}
-
-// The first n rules.
-fn run_rules(
-    rt: &impl Print,
-    text: &[u8],
-    steps_at: usize,
-    ops: &[u8],
-    nums: &[u64],
-    firsts: &[usize; BOOK_RULES],
-    counts: &[usize; BOOK_RULES],
-    n: usize,
-) -> io::Result<()>
-    requires { n ≤ book_rules }
-{
-    let mut r: usize = 0;
-    while r < n {
-        run_one(rt, text, steps_at, ops, nums, firsts, counts, r)?;
-        r += 1;
-    }
-    Ok(())
+    run_rule(rt, &rule, text, book.read.steps_at)
 }
 
 fn run_book(rt: &impl Print, text: &[u8]) -> io::Result<()> {
-    let mut labels = [0u8; LABELS_ROOM];
-    let mut lens = [0usize; BOOK_RULES];
-    let mut kinds = [0u8; BOOK_RULES];
-    let mut firsts = [0usize; BOOK_RULES];
-    let mut counts = [0usize; BOOK_RULES];
-    let mut ops = [0u8; BOOK_NODES];
-    let mut nums = [0u64; BOOK_NODES];
-    let mut names = [0u8; NAMES_ROOM];
-    let mut sizes = [0usize; BOOK_SLOTS];
-    let mut widths = [0u64; BOOK_SLOTS];
-    let answer = read_book(
-        text,
-        &mut labels,
-        &mut lens,
-        &mut kinds,
-        &mut firsts,
-        &mut counts,
-        &mut ops,
-        &mut nums,
-        &mut names,
-        &mut sizes,
-        &mut widths,
-    );
-    match answer {
-        Answer::Refused { number, line } => show_refused(rt, number as u64, line as u64)?,
-        Answer::Read {
-            rules,
-            nodes: _,
-            steps_at,
-            slots: _,
-            states: _,
-        } => {
-            if BOOK_RULES < rules {
-                return show_refused(rt, 2, 0);
+    match open_book(text) {
+        Err(refused) => println!(rt; "refused\t{}\t{}", u64::from(refused.refusal), refused.line),
+        Ok(book) => {
+            for r in 0..book.read.rules {
+                run_one(rt, text, &book, r)?;
             }
-            run_rules(rt, text, steps_at, &ops, &nums, &firsts, &counts, rules)?;
+            Ok(())
         }
     }
-    Ok(())
 }
 
 fn main(rt: HostRuntime) -> io::Result<()> {

@@ -1,80 +1,67 @@
 // Calls that 1 or 2 refuses, made with no byte lent: a line is written only for one that answers otherwise.
-use crate::call::{Part, is_junk_from, junk, refusal_in, refusal_to_save, restore_in, save_of};
-use crate::show::show_misuse;
+use crate::rule::{Rule, is_junk_from, junk};
+use crate::show::told;
 use in_place::ReferenceMonitor;
+use monitor::table::{Part, Tables};
+use result::Refusal;
 use std::io;
 
-// Saving is to be refused by n.
+// A call that answers otherwise than it is to.
+fn show_misuse(
+    rt: &impl Print,
+    rule: &Rule,
+    call: u64,
+    answer: Result<usize, Refusal>,
+) -> io::Result<()> {
+    println!(rt; "misuse\t{}\t{call}\t{}", rule.number, told(answer))
+}
+
+// Saving is to be refused.
 fn save_refused(
     rt: &impl Print,
-    ops: &[u8],
-    nums: &[u64],
-    nodes: &[u64],
-    p: Part,
-    r: usize,
-    m: ReferenceMonitor,
-    n: u64,
+    rule: &Rule,
+    m: &ReferenceMonitor,
+    refusal: Refusal,
 ) -> io::Result<()> {
     let mut bytes = [0u8; 1];
-    let answer = save_of(ops, nums, nodes, p, m, &mut bytes[..0]);
-    let refusal = refusal_to_save(answer);
-    if refusal != n {
-        show_misuse(rt, r, 0, refusal)?;
+    let answer = rule.save_to(m, &mut bytes[..0]);
+    if answer != Err(refusal) {
+        show_misuse(rt, rule, 0, answer)?;
     }
     Ok(())
 }
 
-// Restoring is to be refused by n, and to leave the lists as they are.
-fn restore_refused(
-    rt: &impl Print,
-    ops: &[u8],
-    nums: &[u64],
-    nodes: &[u64],
-    p: Part,
-    r: usize,
-    n: u64,
-) -> io::Result<()> {
-    let bytes = [0u8; 1];
-    let started = restore_in(ops, nums, nodes, p, junk(), &bytes[..0]);
-    let outcome = started.outcome;
-    let refusal = refusal_in(outcome);
-    if refusal != n {
-        show_misuse(rt, r, 1, refusal)?;
+// Restoring is to be refused, and to leave the lists as they are.
+fn restore_refused(rt: &impl Print, rule: &Rule, refusal: Refusal) -> io::Result<()> {
+    let restored = rule.restore(&[]);
+    if restored.answer != Err(refusal) {
+        show_misuse(rt, rule, 1, restored.answer)?;
     }
-    if !is_junk_from(started.monitor, 0) {
-        show_misuse(rt, r, 2, refusal)?;
+    if !is_junk_from(&restored.monitor, 0) {
+        show_misuse(rt, rule, 2, restored.answer)?;
     }
     Ok(())
 }
 
-// Tables with a node more than the rule has.
-fn one_more(p: Part) -> Part {
-    let ncount = p.ncount;
-    if 256 < ncount {
-        return p;
-    }
-    Part {
-        first: p.first,
-        count: p.count,
-        nfirst: p.nfirst,
-        ncount: ncount + 1,
-    }
-}
-
-// A monitor that is not the rule's, tables that hold no rule, and a table that is too short.
-pub(crate) fn try_misuse(
-    rt: &impl Print,
-    ops: &[u8],
-    nums: &[u64],
-    nodes: &[u64],
-    p: Part,
-    r: usize,
-    fresh: ReferenceMonitor,
-) -> io::Result<()> {
-    save_refused(rt, ops, nums, nodes, p, r, junk(), 2)?;
-    save_refused(rt, ops, nums, nodes, one_more(p), r, fresh, 2)?;
-    restore_refused(rt, ops, nums, nodes, one_more(p), r, 2)?;
-    let none = [0u64; 1];
-    save_refused(rt, ops, nums, &none, p, r, fresh, 1)?;
-    restore_refused(rt, ops, nums, &none, p, r, 1)
+// A monitor that is not the rule's, tables with a node more than the rule has, and a table that is too short.
+pub(crate) fn try_misuse(rt: &impl Print, rule: &Rule, fresh: &ReferenceMonitor) -> io::Result<()> {
+    save_refused(rt, rule, &junk(), Refusal::Unfit)?;
+    let one_more = Rule {
+        part: Part {
+            ncount: rule.part.ncount.saturating_add(1),
+            ..rule.part
+        },
+        ..*rule
+    };
+    save_refused(rt, &one_more, fresh, Refusal::Unfit)?;
+    restore_refused(rt, &one_more, Refusal::Unfit)?;
+    let none = Rule {
+        tables: Tables {
+            nodes: &[],
+            ..rule.tables
+        },
+        ..*rule
+    };
+    save_refused(rt, &none, fresh, Refusal::Short)?;
+    restore_refused(rt, &none, Refusal::Short)
 }

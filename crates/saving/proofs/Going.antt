@@ -4,26 +4,23 @@
 --     Writing     the bits so far are written
 --     Sounding    the bits so far are sound
 --     Entering    the entries so far are stored
-use mathlib.Core.Path.{◌≡◌, refl, sym, ap, subst, ◌∙◌}
+use mathlib.Core.Path.{◌≡◌, refl, sym, ap, ◌∙◌}
 use mathlib.Core.Bool.{Bool, true, false, ◌&&◌, ◌||◌}
 use mathlib.Core.List.{List, [], ◌∷◌, ◌++◌}
 use Prim.Native.Nat.{ℕ, zero, suc, ◌+◌, ◌-◌, ◌*◌, ◌≤◌, ◌<◌}
 use native.Mathlib.Omega.{arith}
-use lib.ListN.{length, get_or, length-set}
-use mir.Syntax.{w64}
-use mir.Val.{Fits}
+use lib.ListN.{length, get_or}
 use Rattle.monitor.specs.Table.{row_of}
 use Rattle.plan.specs.Rows.{RowsPart}
 use Rattle.node_step.specs.declared.state.MonState.{MonState}
-use Rattle.node_step.specs.Memory.{Memory, put, Inside}
-use Rattle.node_step.proofs.Entries.{inside_put, inside_less}
+use Rattle.node_step.specs.Memory.{Memory, put}
 use Rattle.bits.specs.Bits.{bit_in, ink_bit, ink_bits}
 use Rattle.bits.proofs.Loops.{ink_length}
 use Rattle.bits.proofs.Numbers.{digits_length}
 use Rattle.kept.specs.declared.Keep.{Keep}
 use Rattle.kept.specs.declared.Keep.TheVariants.{Nothing, Antecedent, Window}
-use Rattle.kept.specs.Kept.{keep_row, keep_width, keep_written, keep_spent, kept_bits, row_keeps, spent, spent_from, state_bits_of, keep_entry, entry_sound, entries_in, entered, sound_from, MarkedPart, StatePart, StoredPart, EntriesPart, PutKept, Space}
-use Rattle.saving.proofs.Rows.{rest_row, rest_none, rest_all}
+use Rattle.kept.specs.Kept.{keep_row, keep_width, keep_written, keep_spent, kept_bits, row_keeps, spent, spent_from, state_bits_of, keep_entry, entry_sound, entries_in, entered, sound_from, PutKept, Space}
+use Rattle.saving.proofs.Rows.{rest_row, rest_none}
 
 -- what is left after k rows
 abbrev pub left : List ℕ → ℕ → ℕ → ℕ → List Keep
@@ -36,13 +33,7 @@ pub record Going (nodes : List ℕ) (nfirst n : ℕ) (bytes : List ℕ) (k at : 
   pub room : at + kept_bits (left nodes nfirst n k) ≤ 8 * length bytes
 
 module _ (nodes : List ℕ) (nfirst n : ℕ) (bytes : List ℕ) where
-  going_none : RowsPart nodes nfirst n → kept_bits (row_keeps nodes nfirst n) ≤ 8 * length bytes → Going nodes nfirst n bytes 0 0
-  going_none p h = record { rows = p; upto = omega arith; most = omega arith; room = omega (arith, h, ap kept_bits (rest_all nodes nfirst n)) }
-
   module _ (k at : ℕ) (g : Going nodes nfirst n bytes k at) (h : k < n) where
-    pub going_row : 7 * (nfirst + k + 1) ≤ length nodes
-    going_row = omega (arith, g.rows.inside)
-
     next_bits : kept_bits (left nodes nfirst n k) ≡ keep_width (keep_row (row_of nodes (nfirst + k))) + kept_bits (left nodes nfirst n (k + 1))
     unfolding kept_bits
     next_bits = ap kept_bits (rest_row nodes nfirst n k h)
@@ -52,9 +43,6 @@ module _ (nodes : List ℕ) (nfirst n : ℕ) (bytes : List ℕ) where
       going_room = record { inside = omega (arith, g.room, next_bits, ap keep_width e); low = omega (arith, g.most, g.rows.few) }
 
     module _ (x : Keep) (e : x ≡ keep_row (row_of nodes (nfirst + k))) (w : ℕ) (q : (w ≡ keep_width x) × (w ≤ 65)) where
-      pub going_fits : Fits w64 (at + w)
-      going_fits = record { fits = omega (arith, q.1, g.most, g.rows.few) }
-
       going_more : (bytes' : List ℕ) → length bytes' ≡ length bytes → Going nodes nfirst n bytes' (k + 1) (at + w)
       going_more bytes' l = record {
         rows = g.rows;
@@ -65,36 +53,15 @@ module _ (nodes : List ℕ) (nfirst n : ℕ) (bytes : List ℕ) where
 
 -- ---- marks
 pub record Marking (nodes : List ℕ) (nfirst n : ℕ) (failed : List Bool) (k : ℕ) : Type 0 where
-  pub part : MarkedPart nodes nfirst n failed
-  pub upto : k ≤ n
   pub rest : spent (row_keeps nodes nfirst n) failed ≡ spent_from (left nodes nfirst n k) failed k
 
 module _ (nodes : List ℕ) (nfirst n : ℕ) (failed : List Bool) where
-  pub marked_root : get_or failed 0 false ≡ true → true ≡ spent (row_keeps nodes nfirst n) failed
-  marked_root e = sym (ap (λ (b : Bool). b || spent_from (row_keeps nodes nfirst n) failed 0) e)
-
-  pub root_there : MarkedPart nodes nfirst n failed → 0 < length failed
-  root_there p = omega (arith, p.some, p.in_failed)
-
-  pub marking_none : MarkedPart nodes nfirst n failed → get_or failed 0 false ≡ false → Marking nodes nfirst n failed 0
-  marking_none p e = record {
-    part = p;
-    upto = omega arith;
-    rest = ap (λ (b : Bool). b || spent_from (row_keeps nodes nfirst n) failed 0) e ∙ ap (λ (x : List Keep). spent_from x failed 0) (sym (rest_all nodes nfirst n));
-  }
-
   module _ (k : ℕ) (g : Marking nodes nfirst n failed k) where
     pub marking_all : n ≤ k → false ≡ spent (row_keeps nodes nfirst n) failed
     unfolding spent_from
     marking_all h = sym (g.rest ∙ ap (λ (x : List Keep). spent_from x failed k) (rest_none nodes nfirst n k h))
 
     module _ (h : k < n) where
-      pub marking_row : 7 * (nfirst + k + 1) ≤ length nodes
-      marking_row = omega (arith, g.part.rows.inside)
-
-      pub marking_place : k < length failed
-      marking_place = omega (arith, g.part.in_failed)
-
       module _ (x : Keep) (e : x ≡ keep_row (row_of nodes (nfirst + k))) (b : Bool) (q : b ≡ keep_spent x (get_or failed k false)) where
         here : spent (row_keeps nodes nfirst n) failed ≡ (b || spent_from (left nodes nfirst n (k + 1)) failed (k + 1))
         unfolding spent_from
@@ -106,8 +73,6 @@ module _ (nodes : List ℕ) (nfirst n : ℕ) (failed : List Bool) where
 
         pub marking_more : b ≡ false → Marking nodes nfirst n failed (k + 1)
         marking_more z = record {
-          part = g.part;
-          upto = omega arith;
           rest = here ∙ ap (λ (c : Bool). c || spent_from (left nodes nfirst n (k + 1)) failed (k + 1)) z;
         }
 
@@ -132,43 +97,19 @@ written_length (Window (suc b)) held remaining = ap suc (digits_length _ _) ∙ 
 
 pub record Writing (nodes : List ℕ) (nfirst n : ℕ) (held : List Bool) (remaining bytes₀ bytes : List ℕ) (at k : ℕ) : Type 0 where
   pub going : Going nodes nfirst n bytes k at
-  pub in_held : n ≤ length held
-  pub in_remaining : n ≤ length remaining
-  pub long : length bytes ≡ length bytes₀
   pub rest : ink_bits bytes₀ 0 (state_bits_of (row_keeps nodes nfirst n) held remaining 0) ≡ ink_bits bytes at (state_bits_of (left nodes nfirst n k) held remaining k)
 
 module _ (nodes : List ℕ) (nfirst n : ℕ) (held : List Bool) (remaining bytes₀ : List ℕ) where
-  pub writing_none : StatePart nodes nfirst n held remaining bytes₀ → Writing nodes nfirst n held remaining bytes₀ bytes₀ 0 0
-  writing_none p = record {
-    going = going_none nodes nfirst n bytes₀ p.rows p.room;
-    in_held = p.in_held;
-    in_remaining = p.in_remaining;
-    long = refl;
-    rest = ap (λ (x : List Keep). ink_bits bytes₀ 0 (state_bits_of x held remaining 0)) (sym (rest_all nodes nfirst n));
-  }
-
   module _ (bytes : List ℕ) (at k : ℕ) (g : Writing nodes nfirst n held remaining bytes₀ bytes at k) where
     pub writing_all : n ≤ k → bytes ≡ ink_bits bytes₀ 0 (state_bits_of (row_keeps nodes nfirst n) held remaining 0)
     unfolding state_bits_of ink_bits
     writing_all h = sym (g.rest ∙ ap (λ (x : List Keep). ink_bits bytes at (state_bits_of x held remaining k)) (rest_none nodes nfirst n k h))
 
     module _ (h : k < n) where
-      pub writing_row : 7 * (nfirst + k + 1) ≤ length nodes
-      writing_row = going_row nodes nfirst n bytes k at g.going h
-
-      pub writing_held : k < length held
-      writing_held = omega (arith, g.in_held)
-
-      pub writing_remaining : k < length remaining
-      writing_remaining = omega (arith, g.in_remaining)
-
       pub writing_room : (x : Keep) → x ≡ keep_row (row_of nodes (nfirst + k)) → Space bytes at (keep_width x)
       writing_room x e = going_room nodes nfirst n bytes k at g.going h x e
 
       module _ (x : Keep) (e : x ≡ keep_row (row_of nodes (nfirst + k))) (w : ℕ) (q : (w ≡ keep_width x) × (w ≤ 65)) where
-        pub writing_fits : Fits w64 (at + w)
-        writing_fits = going_fits nodes nfirst n bytes k at g.going h x e w q
-
         pub writing_more : (bytes' : List ℕ) → PutKept bytes at x (get_or held k false) (get_or remaining k 0) bytes' → Writing nodes nfirst n held remaining bytes₀ bytes' (at + w) (k + 1)
         unfolding state_bits_of
         writing_more bytes' p =
@@ -177,9 +118,6 @@ module _ (nodes : List ℕ) (nfirst n : ℕ) (held : List Bool) (remaining bytes
             let o : at + length bs ≡ at + w = ap (at +◌) (written_length x (get_or held k false) (get_or remaining k 0) ∙ sym q.0) in
             record {
               going = going_more nodes nfirst n bytes k at g.going h x e w q bytes' l;
-              in_held = g.in_held;
-              in_remaining = g.in_remaining;
-              long = l ∙ g.long;
               rest =
                   g.rest
                   ∙ ap (λ (y : List Keep). ink_bits bytes at (state_bits_of y held remaining k)) (rest_row nodes nfirst n k h)
@@ -194,27 +132,14 @@ pub record Sounding (nodes : List ℕ) (nfirst n : ℕ) (bytes : List ℕ) (at k
   pub rest : sound_from (row_keeps nodes nfirst n) (bit_in bytes) 0 ≡ sound_from (left nodes nfirst n k) (bit_in bytes) at
 
 module _ (nodes : List ℕ) (nfirst n : ℕ) (bytes : List ℕ) where
-  pub sounding_none : StoredPart nodes nfirst n bytes → Sounding nodes nfirst n bytes 0 0
-  sounding_none p = record {
-    going = going_none nodes nfirst n bytes p.rows p.room;
-    rest = ap (λ (x : List Keep). sound_from x (bit_in bytes) 0) (sym (rest_all nodes nfirst n));
-  }
-
   module _ (at k : ℕ) (g : Sounding nodes nfirst n bytes at k) where
     pub sounding_all : n ≤ k → true ≡ sound_from (row_keeps nodes nfirst n) (bit_in bytes) 0
     unfolding sound_from
     sounding_all h = sym (g.rest ∙ ap (λ (x : List Keep). sound_from x (bit_in bytes) at) (rest_none nodes nfirst n k h))
 
     module _ (h : k < n) where
-      pub sounding_row : 7 * (nfirst + k + 1) ≤ length nodes
-      sounding_row = going_row nodes nfirst n bytes k at g.going h
-
       pub sounding_room : (x : Keep) → x ≡ keep_row (row_of nodes (nfirst + k)) → Space bytes at (keep_width x)
       sounding_room x e = going_room nodes nfirst n bytes k at g.going h x e
-
-      module _ (x : Keep) (e : x ≡ keep_row (row_of nodes (nfirst + k))) (w : ℕ) (q : (w ≡ keep_width x) × (w ≤ 65)) where
-        pub sounding_fits : Fits w64 (at + w)
-        sounding_fits = going_fits nodes nfirst n bytes k at g.going h x e w q
 
       module _ (x : Keep) (e : x ≡ keep_row (row_of nodes (nfirst + k))) (st : MonState) (s : st ≡ keep_entry x (bit_in bytes) at) (b : Bool) (z : b ≡ entry_sound x st) where
         abbrev behind : ℕ → Bool
@@ -238,61 +163,25 @@ module _ (nodes : List ℕ) (nfirst n : ℕ) (bytes : List ℕ) where
         }
 
 -- ---- storing
--- two memories with lists of the same lengths
-pub record SameLong (mem₀ mem : Memory) : Type 0 where
-  pub held : length mem.held ≡ length mem₀.held
-  pub remaining : length mem.remaining ≡ length mem₀.remaining
-  pub failed : length mem.failed ≡ length mem₀.failed
-  pub culprits : length mem.culprits ≡ length mem₀.culprits
-
-put_long : (mem₀ mem : Memory) (k : ℕ) (e : MonState) → SameLong mem₀ mem → SameLong mem₀ (put mem k e)
-put_long mem₀ mem k e s = record {
-  held = length-set mem.held k _ ∙ s.held;
-  remaining = length-set mem.remaining k _ ∙ s.remaining;
-  failed = length-set mem.failed k _ ∙ s.failed;
-  culprits = length-set mem.culprits k _ ∙ s.culprits;
-}
-
 pub record Entering (nodes : List ℕ) (nfirst n : ℕ) (bytes : List ℕ) (mem₀ mem : Memory) (at k : ℕ) : Type 0 where
   pub going : Going nodes nfirst n bytes k at
-  pub inside : Inside mem n
-  pub long : SameLong mem₀ mem
   pub rest : entered mem₀ 0 (entries_in (row_keeps nodes nfirst n) (bit_in bytes) 0) ≡ entered mem k (entries_in (left nodes nfirst n k) (bit_in bytes) at)
 
 module _ (nodes : List ℕ) (nfirst n : ℕ) (bytes : List ℕ) (mem₀ : Memory) where
-  pub entering_none : EntriesPart nodes nfirst n mem₀ bytes → Entering nodes nfirst n bytes mem₀ mem₀ 0 0
-  entering_none p = record {
-    going = going_none nodes nfirst n bytes p.rows p.room;
-    inside = p.inside;
-    long = record { held = refl; remaining = refl; failed = refl; culprits = refl };
-    rest = ap (λ (x : List Keep). entered mem₀ 0 (entries_in x (bit_in bytes) 0)) (sym (rest_all nodes nfirst n));
-  }
-
   module _ (mem : Memory) (at k : ℕ) (g : Entering nodes nfirst n bytes mem₀ mem at k) where
     pub entering_all : n ≤ k → mem ≡ entered mem₀ 0 (entries_in (row_keeps nodes nfirst n) (bit_in bytes) 0)
     unfolding entries_in entered
     entering_all h = sym (g.rest ∙ ap (λ (x : List Keep). entered mem k (entries_in x (bit_in bytes) at)) (rest_none nodes nfirst n k h))
 
     module _ (h : k < n) where
-      pub entering_row : 7 * (nfirst + k + 1) ≤ length nodes
-      entering_row = going_row nodes nfirst n bytes k at g.going h
-
-      pub entering_place : Inside mem (k + 1)
-      entering_place = inside_less mem (k + 1) n (omega arith) g.inside
-
       pub entering_room : (x : Keep) → x ≡ keep_row (row_of nodes (nfirst + k)) → Space bytes at (keep_width x)
       entering_room x e = going_room nodes nfirst n bytes k at g.going h x e
 
       module _ (x : Keep) (e : x ≡ keep_row (row_of nodes (nfirst + k))) (w : ℕ) (q : (w ≡ keep_width x) × (w ≤ 65)) where
-        pub entering_fits : Fits w64 (at + w)
-        entering_fits = going_fits nodes nfirst n bytes k at g.going h x e w q
-
         pub entering_more : (st : MonState) → st ≡ keep_entry x (bit_in bytes) at → (mem' : Memory) → mem' ≡ put mem k st → Entering nodes nfirst n bytes mem₀ mem' (at + w) (k + 1)
         unfolding entries_in entered
         entering_more st s mem' z = record {
           going = going_more nodes nfirst n bytes k at g.going h x e w q bytes refl;
-          inside = subst (λ (y : Memory). Inside y n) (sym z) (inside_put mem k st n g.inside);
-          long = subst (SameLong mem₀) (sym z) (put_long mem₀ mem k st g.long);
           rest =
               g.rest
               ∙ ap (λ (y : List Keep). entered mem k (entries_in y (bit_in bytes) at)) (rest_row nodes nfirst n k h)

@@ -56,11 +56,6 @@ module _ (nodes : List ℕ) where
     unfolding row_keeps
     rest_none h = let o : n - k ≡ 0 = omega arith in ap (row_keeps nodes (nfirst + k)) o
 
-  pub rest_all : (nfirst n : ℕ) → row_keeps nodes (nfirst + 0) (n - 0) ≡ row_keeps nodes nfirst n
-  rest_all nfirst n =
-      let o : n - 0 ≡ n = omega arith in
-      λ i. row_keeps nodes (add-zero nfirst i) (o i)
-
 -- ---- tables that hold a rule
 module _ (t : LentTables) (m : Mon) (e : rule_mon t ≡ some m) where
   pub rows_keep : row_keeps t.nodes t.nfirst t.ncount ≡ keeps m

@@ -1,36 +1,33 @@
 // Restoring: a lent monitor is made anew from stored bytes.
 ghost use Rattle.std.specs.Prelude.{◌≡◌};
-ghost use Rattle.node_step.specs.Memory.{Memory, entries};
-ghost use Rattle.lent.specs.Lent.{tables};
+ghost use Rattle.node_step.specs.Lists.{memory_of, SameLists};
+ghost use Rattle.lent.specs.Lists.{tables_of};
 ghost use Rattle.bits.specs.Bits.{bit_in};
 ghost use Rattle.kept.specs.Kept.{row_keeps, entries_in, entered, sound_from, stored, StoredPart, WholePart, EntriesPart};
 ghost use Rattle.saving.specs.Restore.{Restorable, RestoreAnswers, restore_kept, restore_call};
 
 use crate::save::bytes_needed;
 use bits::is_blank;
-use kept::{is_sound, keep_at, take_kept, width_kept};
+use kept::Keep;
 use lent::room::is_lent;
-use monitor::table::is_compiled;
-use node_step::state::store;
+use monitor::table::{Part, Tables};
+use node_step::state::Memory;
 use plan::layout::rule_bits;
-use stepping::fresh::{Outcome, copy_column};
+use result::Refusal;
+use stepping::fresh::copy_column;
 
 // Whether the bits of n nodes are sound.
 fn are_sound(nodes: &[u64], nfirst: usize, n: usize, bytes: &[u8]) -> bool
     requires { StoredPart nodes.now nfirst n bytes.now }
     ensures { result ≡ sound_from (row_keeps nodes.now nfirst n) (bit_in bytes.now) 0 }
 {
-    let mut at: usize = 0;
-    let mut k: usize = 0;
-    while k < n {
-        let keep = keep_at(nodes, nfirst + k);
-        let w = width_kept(keep);
-        if is_sound(keep, take_kept(bytes, at, keep)) {
-            at += w;
-            k += 1;
-        } else {
+    let mut at = 0;
+    for k in 0..n {
+        let keep = Keep::at(nodes, nfirst + k);
+        if !keep.is_sound(keep.take(bytes, at)) {
             return false;
         }
+        at += keep.width();
     }
     true
 }
@@ -40,44 +37,22 @@ fn is_stored(nodes: &[u64], nfirst: usize, n: usize, need: usize, bytes: &[u8]) 
     requires { WholePart nodes.now nfirst n need bytes.now }
     ensures { result ≡ stored (row_keeps nodes.now nfirst n) (bit_in bytes.now) }
 {
-    if are_sound(nodes, nfirst, n, bytes) {
-        let used = rule_bits(nodes, nfirst, n);
-        return is_blank(bytes, used as usize, 8 * need);
-    }
-    false
+    are_sound(nodes, nfirst, n, bytes)
+        && is_blank(bytes, rule_bits(nodes, nfirst, n) as usize, 8 * need)
 }
 
 // Stores the entries that the bits of n nodes say.
-fn enter(
-    nodes: &[u64],
-    nfirst: usize,
-    n: usize,
-    held: &mut [bool],
-    remaining: &mut [u64],
-    failed: &mut [bool],
-    culprits: &mut [i64],
-    bytes: &[u8],
-)
-    requires { EntriesPart nodes.now nfirst n (entries held.old remaining.old failed.old culprits.old) bytes.now }
-    ensures { ◌≡◌ {A = Memory} (entries held.new remaining.new failed.new culprits.new)
-        (entered (entries held.old remaining.old failed.old culprits.old) 0
+fn enter(nodes: &[u64], nfirst: usize, n: usize, memory: &mut Memory, bytes: &[u8])
+    requires { EntriesPart nodes.now nfirst n (memory_of memory.old) bytes.now }
+    ensures restored { memory_of memory.new ≡ (entered (memory_of memory.old) 0
         (entries_in (row_keeps nodes.now nfirst n) (bit_in bytes.now) 0)) }
+    ensures same { SameLists memory.old memory.new }
 {
-    let mut at: usize = 0;
-    let mut k: usize = 0;
-    while k < n {
-        let keep = keep_at(nodes, nfirst + k);
-        let w = width_kept(keep);
-        store(
-            held,
-            remaining,
-            failed,
-            culprits,
-            k,
-            take_kept(bytes, at, keep),
-        );
-        at += w;
-        k += 1;
+    let mut at = 0;
+    for k in 0..n {
+        let keep = Keep::at(nodes, nfirst + k);
+        memory.store(k, keep.take(bytes, at));
+        at += keep.width();
     }
 }
 
@@ -88,63 +63,59 @@ fn restore_rows(
     n: usize,
     forms: &mut [u64],
     bounds: &mut [u64],
-    held: &mut [bool],
-    remaining: &mut [u64],
-    failed: &mut [bool],
-    culprits: &mut [i64],
+    memory: &mut Memory,
     bytes: &[u8],
-) -> Outcome
-    requires { Restorable nodes.now nfirst n forms.old bounds.old (entries held.old remaining.old failed.old culprits.old) }
-    ensures { RestoreAnswers
+) -> Result<usize, Refusal>
+    requires { Restorable nodes.now nfirst n forms.old bounds.old (memory_of memory.old) }
+    ensures restored { RestoreAnswers
         (restore_kept (row_keeps nodes.now nfirst n) nodes.now nfirst n forms.old bounds.old
-        (entries held.old remaining.old failed.old culprits.old) bytes.now)
-        result forms.new bounds.new (entries held.new remaining.new failed.new culprits.new) }
+        (memory_of memory.old) bytes.now)
+        result forms.new bounds.new (memory_of memory.new) }
+    ensures same { SameLists memory.old memory.new }
 {
     let need = bytes_needed(nodes, nfirst, n);
     if bytes.len() < need {
-        return Outcome::Refused(1);
+        return Err(Refusal::Short);
     }
-    if is_stored(nodes, nfirst, n, need, bytes) {
-        copy_column(nodes, 0, nfirst, forms, n);
-        copy_column(nodes, 1, nfirst, bounds, n);
-        enter(nodes, nfirst, n, held, remaining, failed, culprits, bytes);
-        return Outcome::Made(n);
+    if !is_stored(nodes, nfirst, n, need, bytes) {
+        return Err(Refusal::Unsaved);
     }
-    Outcome::Refused(27)
+    copy_column(nodes, 0, nfirst, forms, n);
+    copy_column(nodes, 1, nfirst, bounds, n);
+    enter(nodes, nfirst, n, memory, bytes);
+    Ok(n)
 }
 
-// Makes the monitor of the compiled rule that the tables hold, with the state that the bytes hold. What the monitor held is not looked at.
+// Makes the monitor of the compiled rule that the tables hold, with the state that the bytes hold: the count of its nodes,
+// or the refusal. What the monitor held is not looked at.
 pub fn restore(
-    ops: &[u8],
-    nums: &[u64],
-    first: usize,
-    count: usize,
-    nodes: &[u64],
-    nfirst: usize,
-    ncount: usize,
+    tables: &Tables,
+    part: Part,
     forms: &mut [u64],
     bounds: &mut [u64],
-    held: &mut [bool],
-    remaining: &mut [u64],
-    failed: &mut [bool],
-    culprits: &mut [i64],
+    memory: &mut Memory,
     bytes: &[u8],
-) -> Outcome
-    ensures { RestoreAnswers
-        (restore_call (tables ops.now nums.now first count nodes.now nfirst ncount)
-        forms.old bounds.old (entries held.old remaining.old failed.old culprits.old)
+) -> Result<usize, Refusal>
+    ensures restored { RestoreAnswers
+        (restore_call (tables_of tables.now part)
+        forms.old bounds.old (memory_of memory.old)
         bytes.now)
-        result forms.new bounds.new (entries held.new remaining.new failed.new culprits.new) }
+        result forms.new bounds.new (memory_of memory.new) }
+    ensures same { SameLists memory.old memory.new }
 {
-    if is_lent(
-        ops, nums, nodes, forms, bounds, held, remaining, failed, culprits,
-    ) {
-        if is_compiled(ops, nums, first, count, nodes, nfirst, ncount) {
-            return restore_rows(
-                nodes, nfirst, ncount, forms, bounds, held, remaining, failed, culprits, bytes,
-            );
-        }
-        return Outcome::Refused(2);
+    if !is_lent(tables, forms, bounds, &memory.entries()) {
+        return Err(Refusal::Short);
     }
-    Outcome::Refused(1)
+    if !tables.is_compiled(part) {
+        return Err(Refusal::Unfit);
+    }
+    restore_rows(
+        tables.nodes,
+        part.nfirst,
+        part.ncount,
+        forms,
+        bounds,
+        memory,
+        bytes,
+    )
 }

@@ -1,21 +1,18 @@
 // Saving: a monitor's state is written into lent bytes.
 ghost use Rattle.std.specs.Prelude.{◌≡◌};
-ghost use Rattle.node_step.specs.Memory.{entries};
-ghost use Rattle.lent.specs.Lent.{monitor_of, tables};
+ghost use Rattle.node_step.specs.Lists.{entries_of};
+ghost use Rattle.lent.specs.Lists.{tables_of, lent_monitor};
 ghost use Rattle.bits.specs.Bits.{ink_bits};
 ghost use Rattle.kept.specs.Kept.{kept_bytes, row_keeps, spent, state_bits_of, BitsPart, StatePart, MarkedPart};
 ghost use Rattle.saving.specs.Save.{Savable, SaveAnswers, save_call, save_kept};
 
-use kept::{is_spent, keep_at, put_kept, width_kept};
+use kept::Keep;
+use lent::Frame;
 use lent::refusal::refusal_of;
+use monitor::table::{Part, Tables};
+use node_step::state::Entries;
 use plan::layout::rule_bits;
-
-// The count of the bytes that hold the state; or the refusal.
-#[derive(Clone, Copy)]
-pub enum Saved {
-    Bytes(usize),
-    Refused(u64),
-}
+use result::Refusal;
 
 // The bytes that hold the bits of the n rows from nfirst on.
 pub(crate) fn bytes_needed(nodes: &[u64], nfirst: usize, n: usize) -> usize
@@ -27,104 +24,75 @@ pub(crate) fn bytes_needed(nodes: &[u64], nfirst: usize, n: usize) -> usize
 }
 
 // Whether the root, an obligation or a delayed check among n rows is marked failed.
-fn has_failed(nodes: &[u64], nfirst: usize, n: usize, failed: &[bool]) -> bool
-    requires { MarkedPart nodes.now nfirst n failed.now }
-    ensures { result ≡ spent (row_keeps nodes.now nfirst n) failed.now }
+fn has_failed(nodes: &[u64], nfirst: usize, n: usize, entries: &Entries) -> bool
+    requires { MarkedPart nodes.now nfirst n entries.now.failed.now }
+    ensures { result ≡ spent (row_keeps nodes.now nfirst n) entries.now.failed.now }
 {
-    if failed[0] {
+    if entries.failed[0] {
         return true;
     }
-    let mut k: usize = 0;
-    while k < n {
-        if is_spent(keep_at(nodes, nfirst + k), failed[k]) {
+    for k in 0..n {
+        if Keep::at(nodes, nfirst + k).is_spent(entries.failed[k]) {
             return true;
         }
-        k += 1;
     }
     false
 }
 
 // Writes the bits of n nodes.
-fn write_state(
-    nodes: &[u64],
-    nfirst: usize,
-    n: usize,
-    held: &[bool],
-    remaining: &[u64],
-    bytes: &mut [u8],
-)
-    requires { StatePart nodes.now nfirst n held.now remaining.now bytes.old }
+fn write_state(nodes: &[u64], nfirst: usize, n: usize, entries: &Entries, bytes: &mut [u8])
+    requires { StatePart nodes.now nfirst n entries.now.held.now entries.now.remaining.now bytes.old }
     ensures { bytes.new
-        ≡ ink_bits bytes.old 0 (state_bits_of (row_keeps nodes.now nfirst n) held.now remaining.now 0) }
+        ≡ ink_bits bytes.old 0 (state_bits_of (row_keeps nodes.now nfirst n) entries.now.held.now entries.now.remaining.now 0) }
 {
-    let mut at: usize = 0;
-    let mut k: usize = 0;
-    while k < n {
-        let keep = keep_at(nodes, nfirst + k);
-        let w = width_kept(keep);
-        put_kept(bytes, at, keep, held[k], remaining[k]);
-        at += w;
-        k += 1;
+    let mut at = 0;
+    for k in 0..n {
+        let keep = Keep::at(nodes, nfirst + k);
+        keep.put(bytes, at, entries.held[k], entries.remaining[k]);
+        at += keep.width();
     }
 }
 
-// Saves the state of a monitor that fits the n rows from nfirst on.
+// Saves the state of a monitor that fits the n rows from nfirst on: the count of the bytes that hold it, or the refusal.
 fn save_fit(
     nodes: &[u64],
     nfirst: usize,
     n: usize,
-    held: &[bool],
-    remaining: &[u64],
-    failed: &[bool],
+    entries: &Entries,
     bytes: &mut [u8],
-) -> Saved
-    requires { Savable nodes.now nfirst n held.now remaining.now failed.now }
+) -> Result<usize, Refusal>
+    requires { Savable nodes.now nfirst n entries.now.held.now entries.now.remaining.now entries.now.failed.now }
     ensures { SaveAnswers
-        (save_kept (row_keeps nodes.now nfirst n) held.now remaining.now failed.now bytes.old)
+        (save_kept (row_keeps nodes.now nfirst n) entries.now.held.now entries.now.remaining.now entries.now.failed.now bytes.old)
         result bytes.new }
 {
     let need = bytes_needed(nodes, nfirst, n);
     if bytes.len() < need {
-        return Saved::Refused(1);
+        return Err(Refusal::Short);
     }
-    if has_failed(nodes, nfirst, n, failed) {
-        return Saved::Refused(26);
+    if has_failed(nodes, nfirst, n, entries) {
+        return Err(Refusal::Failed);
     }
-    write_state(nodes, nfirst, n, held, remaining, bytes);
-    Saved::Bytes(need)
+    write_state(nodes, nfirst, n, entries, bytes);
+    Ok(need)
 }
 
-// Saves a lent monitor into lent bytes, over the tables that hold its rule.
+// Saves a lent monitor into lent bytes, over the tables that hold its rule: the count of the bytes that hold it, or the refusal.
 pub fn save(
-    ops: &[u8],
-    nums: &[u64],
-    first: usize,
-    count: usize,
-    nodes: &[u64],
-    nfirst: usize,
-    ncount: usize,
-    size: usize,
-    forms: &[u64],
-    bounds: &[u64],
-    held: &[bool],
-    remaining: &[u64],
-    failed: &[bool],
-    culprits: &[i64],
+    tables: &Tables,
+    part: Part,
+    frame: &Frame,
+    entries: &Entries,
     bytes: &mut [u8],
-) -> Saved
+) -> Result<usize, Refusal>
     ensures { SaveAnswers
-        (save_call (tables ops.now nums.now first count nodes.now nfirst ncount)
-        (monitor_of size forms.now bounds.now
-        (entries held.now remaining.now failed.now culprits.now))
+        (save_call (tables_of tables.now part)
+        (lent_monitor frame.now (entries_of entries.now))
         bytes.old)
         result bytes.new }
 {
-    let refusal = refusal_of(
-        ops, nums, first, count, nodes, nfirst, ncount, size, forms, bounds, held, remaining,
-        failed, culprits,
-    );
-    if refusal == 0 {
-        return save_fit(nodes, nfirst, ncount, held, remaining, failed, bytes);
+    if let Some(refusal) = refusal_of(tables, part, frame, entries) {
+        return Err(refusal);
     }
-    Saved::Refused(refusal)
+    save_fit(tables.nodes, part.nfirst, part.ncount, entries, bytes)
 }

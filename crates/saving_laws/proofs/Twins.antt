@@ -4,14 +4,15 @@ use mathlib.Core.Bool.{Bool, true, false, ◌&&◌, ◌||◌}
 use mathlib.Core.Bool as bool
 use mathlib.Core.List.{List, [], ◌∷◌}
 use mathlib.Core.Option.{Option, none, some}
-use Prim.Native.Nat.{ℕ, zero, suc, ◌+◌}
-use native.Mathlib.Omega.{arith}
+use Prim.Native.Nat.{ℕ, ◌+◌}
 use lib.Dec.{leb, ltb}
 use lib.ListN.{length}
 use lib.Seq.{sets}
 use borrow.Author.Tests.{ltb-true}
 use Rattle.terms.specs.Choice.{pick}
-use Rattle.result.specs.Result.{Result, given}
+use Rattle.std.specs.Prelude.{None, Option as Opt, Some, Result, Ok}
+use Rattle.result.specs.declared.Refusal.{Refusal}
+use Rattle.result.specs.declared.Refusal.TheVariants.{Short, Unfit, Late, Failed}
 use Rattle.monitor.specs.Mon.{Mon}
 use Rattle.meaning.specs.State.{State, failed, step}
 use Rattle.node_step.specs.Memory.{Memory, get}
@@ -53,11 +54,11 @@ module _ (t : LentTables) (k k' : LentMonitor) (w : Twins k k') where
   same_refusal : refusal_of t k ≡ refusal_of t k'
   unfolding refusal_of
   same_refusal =
-      ap₂ (λ (b : Bool) (n : ℕ). pick b n 1) (ap (table_room t.ops t.nums t.nodes &&◌) (w.one.room ∙ sym w.other.room)) (by_rule (rule_mon t))
+      ap₂ (λ (b : Bool) (o : Opt Refusal). pick b o (Some Short)) (ap (table_room t.ops t.nums t.nodes &&◌) (w.one.room ∙ sym w.other.room)) (by_rule (rule_mon t))
     where
       by_rule : (o : Option Mon) → unfit o k ≡ unfit o k'
       by_rule none = refl
-      by_rule (some m) = ap (λ (b : Bool). pick b 0 2) (same_fit m)
+      by_rule (some m) = ap (λ (b : Bool). pick b None (Some Unfit)) (same_fit m)
 
   -- over tables that one is taken over, the other is taken too, and they are alike as monitors of the rule there
   pub record Both (m : Mon) : Type 0 where
@@ -67,7 +68,7 @@ module _ (t : LentTables) (k k' : LentMonitor) (w : Twins k k') where
     pub alike : Alike m (read_mon m k.memory 0) (read_mon m k'.memory 0)
     pub root : failed m (read_mon m k.memory 0) ≡ failed m (read_mon m k'.memory 0)
 
-  both : refusal_of t k ≡ 0 → (m : Mon) × Both m
+  both : refusal_of t k ≡ None → (m : Mon) × Both m
   both e =
       let (m, a, d) = not_refused t k e in
       let l = fits_like w.mon m k w.one.fit d.fit in (
@@ -90,28 +91,28 @@ module _ (t : LentTables) (k k' : LentMonitor) (w : Twins k k') where
     same_by : {c c' d d' : Effect A} → c ≡ d → c' ≡ d' → Same d d' → Same c c'
     same_by {c' = c'} {d = d} p q s = subst (λ (x : Effect A). Same x c') (sym p) (subst (λ (x : Effect A). Same d x) (sym q) s)
 
-    not_taken : (n : ℕ) → Same (refuse n k.memory) (refuse n k'.memory)
-    not_taken n = record { answers = refl; twins = w }
+    not_taken : (r : Refusal) → Same (refuse r k.memory) (refuse r k'.memory)
+    not_taken r = record { answers = refl; twins = w }
 
     pub same_call : ((m : Mon) → Both m → timely ≡ true → Same (does m) (does' m)) → Same (called t k timely does) (called t k' timely does')
     same_call f = go (refusal_of t k) refl
       where
         timed : (m : Mon) (x : Both m) (b : Bool) → timely ≡ b → Same (called t k timely does) (called t k' timely does')
         timed m x true e = same_by
-            (ready_called t k timely does m x.holds x.one ∙ ap (λ (b : Bool). or_refuse b 24 k.memory (does m)) e)
-            (ready_called t k' timely does' m x.holds x.other ∙ ap (λ (b : Bool). or_refuse b 24 k'.memory (does' m)) e)
+            (ready_called t k timely does m x.holds x.one ∙ ap (λ (b : Bool). or_refuse b Late k.memory (does m)) e)
+            (ready_called t k' timely does' m x.holds x.other ∙ ap (λ (b : Bool). or_refuse b Late k'.memory (does' m)) e)
             (f m x e)
         timed m x false e = same_by
-            (ready_called t k timely does m x.holds x.one ∙ ap (λ (b : Bool). or_refuse b 24 k.memory (does m)) e)
-            (ready_called t k' timely does' m x.holds x.other ∙ ap (λ (b : Bool). or_refuse b 24 k'.memory (does' m)) e)
-            (not_taken 24)
+            (ready_called t k timely does m x.holds x.one ∙ ap (λ (b : Bool). or_refuse b Late k.memory (does m)) e)
+            (ready_called t k' timely does' m x.holds x.other ∙ ap (λ (b : Bool). or_refuse b Late k'.memory (does' m)) e)
+            (not_taken Late)
 
-        go : (n : ℕ) → refusal_of t k ≡ n → Same (called t k timely does) (called t k' timely does')
-        go zero e = let (m, x) = both e in timed m x timely refl
-        go (suc n) e = same_by
-            (refused_called t k timely does (suc n) e (λ z. omega arith))
-            (refused_called t k' timely does' (suc n) (sym same_refusal ∙ e) (λ z. omega arith))
-            (not_taken (suc n))
+        go : (o : Opt Refusal) → refusal_of t k ≡ o → Same (called t k timely does) (called t k' timely does')
+        go None e = let (m, x) = both e in timed m x timely refl
+        go (Some r) e = same_by
+            (refused_called t k timely does r e)
+            (refused_called t k' timely does' r (sym same_refusal ∙ e))
+            (not_taken r)
 
 -- ---- a step
 module _ (t : LentTables) (s w : ℕ) (k k' : LentMonitor) (z : Twins k k') where
@@ -127,7 +128,7 @@ module _ (t : LentTables) (s w : ℕ) (k k' : LentMonitor) (z : Twins k k') wher
       let r : read_mon m (accept m k.memory s w).memory 0 ≡ (step m st s w).state = read_back m (step m st s w).state k.memory 0 i in
       let r' : read_mon m (accept m k'.memory s w).memory 0 ≡ (step m st' s w).state = read_back m (step m st' s w).state k'.memory 0 i' in
       record {
-        answers = ap given (reports_alike m st st' s w x.alike x.root);
+        answers = ap Ok (reports_alike m st st' s w x.alike x.root);
         twins = record {
           mon = m;
           one = subst (λ (c : Effect Bool). Ready (with k c.memory) m) a.accepted a.again;
@@ -158,31 +159,31 @@ many t k k' z s [] = record { answers = refl; twins = z }
 many t k k' z s (w ∷ ws) =
     let x = twin_step t s w k k' z in
     let y = many t (with k (step_call t k s w).memory) (with k' (step_call t k' s w).memory) x.twins (s + 1) ws in
-    record { answers = ap₂ (λ (v : Result Bool) (vs : List (Result Bool)). v ∷ vs) x.answers y.answers; twins = y.twins }
+    record { answers = ap₂ (λ (v : Result Bool Refusal) (vs : List (Result Bool Refusal)). v ∷ vs) x.answers y.answers; twins = y.twins }
 
 module _ (t : LentTables) (s : ℕ) (ws : List ℕ) (k k' : LentMonitor) (z : Twins k k') where
   pub twin_run : Same t k k' z (in_time s ws) (λ m. many_steps t k s ws) (λ m. many_steps t k' s ws) (run_call t k s ws) (run_call t k' s ws)
   unfolding run_call
   twin_run = same_call t k k' z (in_time s ws) (λ m. many_steps t k s ws) (λ m. many_steps t k' s ws) (λ m x e.
       let y = many t k k' z s ws in
-      record { answers = ap (λ (vs : List (Result Bool)). given (report_among s vs)) y.answers; twins = y.twins })
+      record { answers = ap (λ (vs : List (Result Bool Refusal)). Ok (report_among s vs)) y.answers; twins = y.twins })
 
 -- ---- saving
 module _ (t : LentTables) (bytes : List ℕ) (k k' : LentMonitor) (z : Twins k k') where
   pub twin_save : save_call t k bytes ≡ save_call t k' bytes
   twin_save = go (refusal_of t k) refl
     where
-      go : (n : ℕ) → refusal_of t k ≡ n → save_call t k bytes ≡ save_call t k' bytes
-      go zero e =
+      go : (o : Opt Refusal) → refusal_of t k ≡ o → save_call t k bytes ≡ save_call t k' bytes
+      go None e =
           let (m, x) = both t k k' z e in
           let a : Memory = k.memory in
           let b : Memory = k'.memory in
           save_fits t k bytes m x.holds x.one
-          ∙ ap₂ (λ (f : Bool) (bs : List Bool). save.or_refuse (leb (kept_bytes (keeps m)) (length bytes)) 1 bytes (save.or_refuse (bool.not f) 26 bytes (record { answer = given (kept_bytes (keeps m)); bytes = sets bytes 0 (packed bs) })))
+          ∙ ap₂ (λ (f : Bool) (bs : List Bool). save.or_refuse (leb (kept_bytes (keeps m)) (length bytes)) Short bytes (save.or_refuse (bool.not f) Failed bytes (record { answer = Ok (kept_bytes (keeps m)); bytes = sets bytes 0 (packed bs) })))
           (ap₂ ◌||◌ z.root (spent_alike a b m 0 x.alike))
           (bits_alike a b m 0 x.alike)
           ∙ sym (save_fits t k' bytes m x.holds x.other)
-      go (suc n) e = save_refused t k bytes (suc n) e (λ y. omega arith) ∙ sym (save_refused t k' bytes (suc n) (sym (same_refusal t k k' z) ∙ e) (λ y. omega arith))
+      go (Some r) e = save_refused t k bytes r e ∙ sym (save_refused t k' bytes r (sym (same_refusal t k k' z) ∙ e))
 
 -- ---- lists of calls
 record SameGot (c : Later) (k k' : LentMonitor) : Type 0 where
@@ -192,7 +193,7 @@ record SameGot (c : Later) (k k' : LentMonitor) : Type 0 where
 one_call : (c : Later) (k k' : LentMonitor) → Twins k k' → SameGot c k k'
 one_call (event (step_event t s w)) k k' z =
     let x = twin_step t s w k k' z in
-    record { got = ap (λ (v : Result Bool). told (step_told v s)) x.answers; twins = x.twins }
+    record { got = ap (λ (v : Result Bool Refusal). told (step_told v s)) x.answers; twins = x.twins }
 one_call (event (run_event t s ws)) k k' z =
     let x = twin_run t s ws k k' z in
     record { got = ap told x.answers; twins = x.twins }

@@ -5,9 +5,10 @@
 --     SavedAgain     restored and saved: the bytes that were read
 --     SaveRestore    both, of what the calls answer
 use Rattle.std.specs.Prelude.{Bool, true, false, List, [], ◌∷◌, ◌≡◌, ℕ, ◌<◌, ◌≤◌, length, get_or, take}
-use Rattle.std.proofs.Math.Option.{Option, none, some}
+use Rattle.std.proofs.Math.Option.{some}
 use Rattle.std.proofs.lemmas.List.Edits.{sets}
-use Rattle.result.specs.Result.{Result, given, refused}
+use Rattle.std.specs.Prelude.{None, Option as Opt, Some, Result, Ok, Err}
+use Rattle.result.specs.declared.Refusal.{Refusal}
 use Rattle.monitor.specs.Mon.{Mon}
 use Rattle.meaning.specs.Calls.{step_count}
 use Rattle.meaning.specs.Demand.{run_all, calls_of, AllFair}
@@ -27,17 +28,17 @@ pub data Later : Type 0 where
   event : Event → Later
   save_event : LentTables → List ℕ → Later
 
--- what the caller of one gets: of a step or a run the refusal, or given, with the step that is reported if one is; of saving all that it answers and leaves
+-- what the caller of one gets: of a step or a run the refusal, or the step that is reported if one is; of saving all that it answers and leaves
 pub data Got : Type 0 where
-  told : Result (Option ℕ) → Got
+  told : Result (Opt ℕ) Refusal → Got
   saved : Saving → Got
 
-abbrev pub step_told : Result Bool → ℕ → Result (Option ℕ)
-step_told (given true) s = given (some s)
-step_told (given false) s = given none
-step_told (refused n) s = refused n
+abbrev pub step_told : Result Bool Refusal → ℕ → Result (Opt ℕ) Refusal
+step_told (Ok true) s = Ok (Some s)
+step_told (Ok false) s = Ok None
+step_told (Err r) s = Err r
 
-abbrev pub event_told : Event → LentMonitor → Result (Option ℕ)
+abbrev pub event_told : Event → LentMonitor → Result (Opt ℕ) Refusal
 event_told (step_event t s w) k = step_told (step_call t k s w).answer s
 event_told (run_event t s ws) k = (run_call t k s ws).answer
 
@@ -75,22 +76,22 @@ AreBytes bytes = (i : ℕ) → get_or bytes i 0 < 256
 
 -- the monitor that the bytes gave, saved over tables that hold the same rule into bytes that are enough: the front is what was read, the rest stays
 pub record SavedAgain (stored : List ℕ) (back : LentMonitor) (t : LentTables) (bytes : List ℕ) (n : ℕ) : Type 0 where
-  pub answers : (save_call t back bytes).answer ≡ given n
+  pub answers : (save_call t back bytes).answer ≡ Ok n
   pub same : (save_call t back bytes).bytes ≡ sets bytes 0 (take n stored)
 
 -- ---- the whole
 pub record SaveRestore : Type 0 where
   -- a monitor k was saved into n bytes. Wherever those bytes stand in front, over tables that hold the same rule and with room for a monitor, restoring
   -- succeeds, and what comes back is as above
-  pub comes_back : (t t' : LentTables) (k : LentMonitor) (bytes stored : List ℕ) (n : ℕ) → (save_call t k bytes).answer ≡ given n →
+  pub comes_back : (t t' : LentTables) (k : LentMonitor) (bytes stored : List ℕ) (n : ℕ) → (save_call t k bytes).answer ≡ Ok n →
       take n stored ≡ take n (save_call t k bytes).bytes →
       rule_mon t' ≡ rule_mon t → table_room t'.ops t'.nums t'.nodes ≡ true →
       (forms bounds : List ℕ) (mem : Memory) → monitor_room forms bounds mem ≡ true →
-      ((restore_call t' forms bounds mem stored).answer ≡ given t'.ncount)
+      ((restore_call t' forms bounds mem stored).answer ≡ Ok t'.ncount)
       × ((m : Mon) → rule_mon t ≡ some m → ComesBack m k (made_monitor t'.ncount (restore_call t' forms bounds mem stored)))
   -- a monitor was restored from bytes. Saved, it gives these bytes
   pub saved_again : (t t' : LentTables) (stored : List ℕ) → AreBytes stored → (forms bounds : List ℕ) (mem : Memory) (c : ℕ) →
-      (restore_call t forms bounds mem stored).answer ≡ given c →
+      (restore_call t forms bounds mem stored).answer ≡ Ok c →
       rule_mon t' ≡ rule_mon t → table_room t'.ops t'.nums t'.nodes ≡ true →
       (n : ℕ) × (n ≤ length stored)
       × ((bytes : List ℕ) → n ≤ length bytes → SavedAgain stored (made_monitor c (restore_call t forms bounds mem stored)) t' bytes n)

@@ -1,107 +1,133 @@
-// The rules of a book compiled into one node table, and laid out. A rule has no more nodes than its formula: its rows begin at its formula's own place.
-ghost use Rattle.std.specs.Prelude.{◌≤◌, ◌<◌};
+// The rules of a book compiled into one node table, and laid out.
+ghost use Rattle.std.specs.Prelude.{◌<◌, ◌≤◌};
 ghost use Rattle.terms.specs.Limits.{book_rules};
 
-use compiler::{Compiled, compile_formula};
-use layout::book::{BookLayout, layout};
-use terms::limit::{BOOK_NODES, BOOK_RULES, BOOK_SLOTS};
+use alike::alike;
+use encoding::ConfigEncoding;
+use layout::book::layout;
+use layout::rule::{layout_for, node_slot};
+use monitor::table::{Part, Tables};
+use opened::Book;
+use plan::layout::{RuleList, Slot};
+use result::Refusal;
+use terms::limit::{BOOK_CELLS, BOOK_RULES, BOOK_SLOTS};
 
-// Compiles the rule at `first` into the rows from row `first` on.
-fn compile_at(ops: &[u8], nums: &[u64], first: usize, count: usize, nodes: &mut [u64]) -> Compiled {
-    if BOOK_NODES < first {
-        return Compiled::Refused(2);
-    }
-    let from = 7 * first;
-    if nodes.len() < from {
-        return Compiled::Refused(1);
-    }
-    compile_formula(ops, nums, first, count, &mut nodes[from..])
+// The rules of a book in the node table: for each how many nodes it has, and the number of its refusal, or 0. `layout` is lent both as lists of numbers.
+#[derive(Clone, Copy)]
+pub(crate) struct Rules {
+    pub book: Book,
+    pub nodes: [u64; BOOK_CELLS],
+    pub ncounts: [usize; BOOK_RULES],
+    pub refusals: [u64; BOOK_RULES],
+    ghost few: { book.read.rules ≤ book_rules },
 }
 
-// Compiles rule r, and enters its count of nodes or its refusal.
-fn compile_one(
-    ops: &[u8],
-    nums: &[u64],
-    firsts: &[usize; BOOK_RULES],
-    counts: &[usize; BOOK_RULES],
-    r: usize,
-    nodes: &mut [u64],
-    ncounts: &mut [usize; BOOK_RULES],
-    refusals: &mut [u64; BOOK_RULES],
-)
-    requires { r < 64 }
-{
-    match compile_at(ops, nums, firsts[r], counts[r], nodes) {
-        Compiled::Refused(m) => {
-            refusals[r] = m;
+impl Rules {
+    // The rules of a book, compiled.
+    pub(crate) fn compiled(book: Book) -> Rules
+        requires { book.read.rules ≤ book_rules }
+    {
+        let mut nodes = [0u64; BOOK_CELLS];
+        let mut ncounts = [0usize; BOOK_RULES];
+        let mut refusals = [0u64; BOOK_RULES];
+        for r in 0..book.read.rules {
+            match book.compile(r, &mut nodes) {
+                Ok(k) => ncounts[r] = k,
+                Err(refusal) => refusals[r] = u64::from(refusal),
+            }
         }
-        Compiled::Nodes(k) => {
-            ncounts[r] = k;
+        Rules {
+            book,
+            nodes,
+            ncounts,
+            refusals,
         }
     }
-}
 
-// Compiles the first n rules.
-pub(crate) fn compile_rules(
-    ops: &[u8],
-    nums: &[u64],
-    firsts: &[usize; BOOK_RULES],
-    counts: &[usize; BOOK_RULES],
-    n: usize,
-    nodes: &mut [u64],
-    ncounts: &mut [usize; BOOK_RULES],
-    refusals: &mut [u64; BOOK_RULES],
-)
-    requires { n ≤ book_rules }
-{
-    let mut r: usize = 0;
-    while r < n {
-        compile_one(ops, nums, firsts, counts, r, nodes, ncounts, refusals);
-        r += 1;
+    pub(crate) fn count(&self) -> usize
+        ensures { result ≤ book_rules }
+    {
+        self.book.read.rules
+    }
+
+    // The tables that hold the rules.
+    fn tables(&self) -> Tables {
+        Tables::new(&self.book.ops, &self.book.nums, &self.nodes)
+    }
+
+    // Where rule r lies.
+    pub(crate) fn part(&self, r: usize) -> Part
+        requires { r < book_rules }
+    {
+        Part {
+            first: self.book.firsts[r],
+            count: self.book.counts[r],
+            nfirst: self.book.firsts[r],
+            ncount: self.ncounts[r],
+        }
+    }
+
+    // The bits of the rule at a part.
+    pub(crate) fn own_bits(&self, a: Part) -> Result<u64, Refusal> {
+        layout_for(&self.tables(), a)
+    }
+
+    // The bits of node j of the rule at a part.
+    pub(crate) fn slot(&self, a: Part, j: usize) -> Result<Slot, Refusal> {
+        node_slot(&self.tables(), a, j)
+    }
+
+    // Whether the rules at two parts are alike.
+    pub(crate) fn alike(&self, a: Part, b: Part) -> Result<bool, Refusal> {
+        alike(&self.tables(), a, b)
+    }
+
+    // Lays out the first n rules, behind what a book opens with.
+    pub(crate) fn lay_out(&self, n: usize, opening: &Opening) -> Laid {
+        let mut starts = [0u64; BOOK_RULES];
+        let mut bits = [0u64; BOOK_RULES];
+        let mut places = [0u64; BOOK_SLOTS];
+        let rules = RuleList {
+            kinds: &self.book.kinds,
+            refusals: &self.refusals,
+            firsts: &self.book.firsts,
+            counts: &self.book.counts,
+            nfirsts: &self.book.firsts,
+            ncounts: &self.ncounts,
+        };
+        let plan = layout(
+            &self.tables(),
+            &rules,
+            n,
+            opening.states,
+            &opening.widths,
+            opening.slots,
+            &mut starts,
+            &mut bits,
+            &mut places,
+        );
+        Laid {
+            plan,
+            starts,
+            bits,
+            places,
+        }
     }
 }
 
 // What a book opens with: its count of states, and its slots' widths, the first `slots` of them.
 #[derive(Clone, Copy)]
 pub(crate) struct Opening {
-    pub count: u64,
+    pub states: u64,
     pub slots: usize,
     pub widths: [u64; BOOK_SLOTS],
 }
 
-// First bits and bits of the first n rules, and the first bits of the slots.
-pub(crate) fn lay_out(
-    ops: &[u8],
-    nums: &[u64],
-    kinds: &[u8],
-    firsts: &[usize; BOOK_RULES],
-    counts: &[usize; BOOK_RULES],
-    nodes: &[u64],
-    ncounts: &[usize; BOOK_RULES],
-    refusals: &[u64; BOOK_RULES],
-    n: usize,
-    opening: Opening,
-    starts: &mut [u64],
-    bits: &mut [u64],
-    places: &mut [u64],
-) -> BookLayout {
-    let widths = opening.widths;
-    layout(
-        ops,
-        nums,
-        firsts,
-        counts,
-        nodes,
-        firsts,
-        ncounts,
-        kinds,
-        refusals,
-        n,
-        opening.count,
-        &widths,
-        opening.slots,
-        starts,
-        bits,
-        places,
-    )
+// The numbers of the whole, or why there are none; first bits and bits of the rules, and the first bits of the slots.
+#[derive(Clone, Copy)]
+pub(crate) struct Laid {
+    pub plan: Result<ConfigEncoding, Refusal>,
+    pub starts: [u64; BOOK_RULES],
+    pub bits: [u64; BOOK_RULES],
+    pub places: [u64; BOOK_SLOTS],
 }

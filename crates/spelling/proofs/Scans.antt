@@ -6,7 +6,6 @@ use mathlib.Core.Logic.{⊎_elim}
 use Prim.Native.Nat.{ℕ, zero, suc, ◌+◌, ◌-◌, ◌≤◌, ◌<◌}
 use native.Mathlib.Omega.{arith}
 use native.Mathlib.Nat.{add-zero}
-use borrow.Author.Tests.{lt-ltb, le-ltb}
 use lib.ListN.{length, get_or}
 use Rattle.number.proofs.Numbers.{below_or}
 use Rattle.formula.specs.Tree.{leaf, one, two, leaf_of, one_of, two_of, size, prefix}
@@ -16,8 +15,7 @@ use Rattle.formula.specs.Table.{node_at}
 use Rattle.formula.specs.Pure.{pure}
 use Rattle.formula.specs.Signal.{end_if, Purely}
 use Rattle.formula.specs.Text.{Sign, sign, signs_by}
-use Rattle.formula.specs.declared.table.Walk.{Walk}
-use Rattle.formula.specs.declared.table.Walk.TheVariants.{Upto, Stuck}
+use Rattle.std.specs.Prelude.{None, Option, Some}
 use Rattle.formula.proofs.Trees.{spells_run, spells_unique}
 use Rattle.formula.proofs.Nodes.{node_unknown}
 use Rattle.formula.proofs.Walks.{both_true, stuck_upto, upto_inj}
@@ -84,16 +82,6 @@ module _ (n : ℕ) (owing : Bool) where
         (λ (k : op < 13). ap (λ (x : ℕ). node_text owing (node x n)) (word_is 12 op h k))
         (λ (k : 13 ≤ op). ap (node_text owing) (node_unknown op n k))
         (below_or op 13)) (nothing a)
-
-module _ (op : ℕ) (a b : Tape) where
-  pub letter_var : op < 1 → Wrote a (118 ∷ []) b → Wrote a (letter op ∷ []) b
-  letter_var h w = rw (lt-ltb op 1 h) w
-
-  pub letter_in : 1 ≤ op → op < 2 → Wrote a (105 ∷ []) b → Wrote a (letter op ∷ []) b
-  letter_in g h w = rw (le-ltb op 1 g, lt-ltb op 2 h) w
-
-  pub letter_out : 1 ≤ op → 2 ≤ op → Wrote a (111 ∷ []) b → Wrote a (letter op ∷ []) b
-  letter_out g h w = rw (le-ltb op 1 g, le-ltb op 2 h) w
 
 -- ---- a whole formula
 pub spelled_append : (s t : List Sign) → spelled (s ++ t) ≡ spelled s ++ spelled t
@@ -192,14 +180,14 @@ pub scan_in_nums : (ops nums : List ℕ) (i e j : ℕ) → Inside ops nums i e �
 scan_in_nums ops nums i e j h k = omega (arith, h.in_nums)
 
 -- ---- the formula at a place
-module _ (ops nums : List ℕ) (i : ℕ) (g : Pure ops nums i) (w : Walk) (p : Purely ops nums i w) where
-  ends : w ≡ Upto (i + size g.place.formula)
+module _ (ops nums : List ℕ) (i : ℕ) (g : Pure ops nums i) (w : Option ℕ) (p : Purely ops nums i w) where
+  ends : w ≡ Some (i + size g.place.formula)
   ends = p.is g.place.formula g.place.spells ∙ ap (λ (t : Bool). end_if t (i + size g.place.formula)) g.is_pure
 
-  pub formula_stuck : (owing : Bool) (a b : Tape) → w ≡ Stuck → Spelled ops nums i owing a b
+  pub formula_stuck : (owing : Bool) (a b : Tape) → w ≡ None → Spelled ops nums i owing a b
   formula_stuck owing a b h = stuck_upto (sym h ∙ ends)
 
-  module _ (e : ℕ) (h : w ≡ Upto e) where
+  module _ (e : ℕ) (h : w ≡ Some e) where
     end_is : e ≡ i + size g.place.formula
     end_is = upto_inj (sym h ∙ ends)
 

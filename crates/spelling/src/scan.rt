@@ -6,7 +6,7 @@ ghost use Rattle.formula.specs.Table.{node_at};
 ghost use Rattle.text.specs.Tape.{tape, Wrote};
 ghost use Rattle.spelling.specs.Scan.{letter, node_text, run_text, Pure, Inside, Spelled};
 
-use formula::table::Walk;
+use formula::table::FormulaTable;
 use terms::op::{AND, IMPLIES, IN, NEXT, NOT, OR, OUT};
 use text::write::{put_byte, put_decimal};
 
@@ -58,48 +58,44 @@ pub fn put_word(out: &mut [u8], at: usize, op: u8, n: u64, owing: bool) -> usize
 fn put_run(
     out: &mut [u8],
     at: usize,
-    ops: &[u8],
-    nums: &[u64],
+    table: &FormulaTable,
     i: usize,
     e: usize,
     owing: bool,
 ) -> usize
-    requires { Inside ops.now nums.now i e }
-    ensures { Wrote (tape out.old at) (run_text owing (run (node_at ops.now nums.now) i (e - i))) (tape out.new result) }
+    requires { Inside table.now.ops.now table.now.nums.now i e }
+    ensures { Wrote (tape out.old at) (run_text owing (run (node_at table.now.ops.now table.now.nums.now) i (e - i))) (tape out.new result) }
 {
     let mut place = at;
-    let mut j = i;
-    while j < e {
-        place = put_word(out, place, ops[j], nums[j], owing);
-        j += 1;
+    for j in i..e {
+        place = put_word(out, place, table.ops[j], table.nums[j], owing);
     }
     place
 }
 
 // The text of the pure formula at i, as an operand or as a signal.
-fn put_formula(out: &mut [u8], at: usize, ops: &[u8], nums: &[u64], i: usize, owing: bool) -> usize
-    requires { Pure ops.now nums.now i }
-    ensures { Spelled ops.now nums.now i owing (tape out.old at) (tape out.new result) }
+fn put_formula(out: &mut [u8], at: usize, table: &FormulaTable, i: usize, owing: bool) -> usize
+    requires { Pure table.now.ops.now table.now.nums.now i }
+    ensures { Spelled table.now.ops.now table.now.nums.now i owing (tape out.old at) (tape out.new result) }
 {
-    let walk = formula::signal::boolean_over_atoms(ops, nums, i);
-    let Walk::Upto(e) = walk else {
-        return at;
-    };
-    put_run(out, at, ops, nums, i, e, owing)
+    if let Some(e) = table.boolean_over_atoms(i) {
+        return put_run(out, at, table, i, e, owing);
+    }
+    at
 }
 
 // A signal's text: implies is `|!`.
-pub fn put_signal(out: &mut [u8], at: usize, ops: &[u8], nums: &[u64], i: usize) -> usize
-    requires { Pure ops.now nums.now i }
-    ensures { Spelled ops.now nums.now i false (tape out.old at) (tape out.new result) }
+pub fn put_signal(out: &mut [u8], at: usize, table: &FormulaTable, i: usize) -> usize
+    requires { Pure table.now.ops.now table.now.nums.now i }
+    ensures { Spelled table.now.ops.now table.now.nums.now i false (tape out.old at) (tape out.new result) }
 {
-    put_formula(out, at, ops, nums, i, false)
+    put_formula(out, at, table, i, false)
 }
 
 // An operand's text: implies is `>`.
-pub fn put_operand(out: &mut [u8], at: usize, ops: &[u8], nums: &[u64], i: usize) -> usize
-    requires { Pure ops.now nums.now i }
-    ensures { Spelled ops.now nums.now i true (tape out.old at) (tape out.new result) }
+pub fn put_operand(out: &mut [u8], at: usize, table: &FormulaTable, i: usize) -> usize
+    requires { Pure table.now.ops.now table.now.nums.now i }
+    ensures { Spelled table.now.ops.now table.now.nums.now i true (tape out.old at) (tape out.new result) }
 {
-    put_formula(out, at, ops, nums, i, true)
+    put_formula(out, at, table, i, true)
 }

@@ -1,6 +1,6 @@
 -- One step of decomposing a formula without faults.
 use mathlib.Core.Path.{◌≡◌, refl, sym, ap, ap₂, subst, ◌∙◌}
-use mathlib.Core.Bool.{true, false}
+use mathlib.Core.Bool.{true}
 use mathlib.Core.List.{List, [], ◌∷◌, ◌++◌}
 use Prim.Native.Nat.{ℕ, ◌+◌, ◌*◌, ◌-◌, ◌≤◌, ◌<◌}
 use native.Mathlib.Omega.{arith}
@@ -9,12 +9,9 @@ use lib.Seq.{sets}
 use Rattle.formula.specs.Tree.{one, two, two_of, size}
 use Rattle.formula.specs.Spells.{Spells}
 use Rattle.formula.specs.Formula.{Unary, Binary, Formula, not, eventually, until}
-use Rattle.formula.specs.Table.{node_at, Placed}
+use Rattle.formula.specs.Table.{node_at}
 use Rattle.formula.specs.Pure.{pure}
-use Rattle.formula.specs.Signal.{Purely}
-use Rattle.formula.specs.declared.table.Walk.{Walk}
-use Rattle.formula.specs.declared.table.Walk.TheVariants.{Upto as WalkUpto, Stuck}
-use Rattle.formula.proofs.Cases.{true_false}
+use Rattle.result.specs.declared.Refusal.TheVariants.{EventuallyOperand, UntilOperand}
 use Rattle.formula.proofs.Trees.{size_pos}
 use Rattle.formula.proofs.Nodes.{number_of, unary_number, binary_number}
 use Rattle.formula.proofs.Places.{leaf_there, one_there, two_there, in_ops}
@@ -24,22 +21,9 @@ use Rattle.split.specs.declared.parts.Filled.{Filled}
 use Rattle.split.proofs.Stores.{sets_then, same_length}
 use Rattle.formula.proofs.Faults.{append_nil_inv, unless_nil}
 use Rattle.liveness.proofs.Words.{only_not, only_until, faults_two, sound_eventually, both_nil}
-use Rattle.liveness.proofs.Judges.{end_true, end_false}
 use Rattle.split.proofs.Cells.{joined, entries_most, owes_most_lem, cells_length, owed_length, owed_append}
 
 -- ---- where a pure formula ends
-module _ (ops nums : List ℕ) (i : ℕ) where
-  pub ends_pure : (w : Walk) (e : ℕ) → Purely ops nums i w → w ≡ WalkUpto e → Ends ops nums i e
-  ends_pure w e c q = record { is = λ f s. (end_true (pure f) e _ (sym q ∙ c.is f s)).1 }
-
-  pub ends_never : (w : Walk) → Purity ops nums i → Purely ops nums i w → w ≡ Stuck → Ends ops nums i i
-  ends_never w p c q =
-      let b : pure p.place.formula ≡ false = end_false (pure p.place.formula) _ (sym q ∙ c.is p.place.formula p.place.spells) in
-      true_false p.is_pure b
-
-  pub purity_placed : Purity ops nums i → Placed ops nums i
-  purity_placed p = p.place
-
 module _ (ops nums : List ℕ) (i : ℕ) (s : List ℕ) (k : ℕ) (w : List ℕ) (o : ℕ) (g : SplitReady ops nums i s k w o) where
   -- ---- what the calls ask
   pub ready_in_ops : i < length ops
@@ -63,14 +47,14 @@ module _ (ops nums : List ℕ) (i : ℕ) (s : List ℕ) (k : ℕ) (w : List ℕ)
       let y : u ≡ eventually = sound_eventually u x (subst (λ (m : ℕ). 4 ≤ m) (unary_number _ _ u t) h) (sym (ap faults q) ∙ g.sound) in
       record {
         place = record { formula = x; spells = v; in_ops = omega (arith, p.in_ops); in_nums = omega (arith, p.in_nums) };
-        is_pure = unless_nil (pure x) 20 (sym (ap faults (q ∙ ap (λ (m : Unary). one m x) y)) ∙ g.sound);
+        is_pure = unless_nil (pure x) EventuallyOperand (sym (ap faults (q ∙ ap (λ (m : Unary). one m x) y)) ∙ g.sound);
       }
 
   module _ (h : 12 ≤ get_or ops i 0) where
     pure_operands : (b : Binary) (l r : Formula) → node_at ops nums i ≡ two_of b → g.place.formula ≡ two b l r → (pure l ≡ true) × (pure r ≡ true)
     unfolding faults node_at
     pure_operands b l r t q =
-        both_nil (pure l) (pure r) 21 (sym (ap faults (q ∙ ap (λ (x : Binary). two x l r) (only_until b (subst (λ (n : ℕ). 12 ≤ n) (binary_number _ _ b t) h)))) ∙ g.sound)
+        both_nil (pure l) (pure r) UntilOperand (sym (ap faults (q ∙ ap (λ (x : Binary). two x l r) (only_until b (subst (λ (n : ℕ). 12 ≤ n) (binary_number _ _ b t) h)))) ∙ g.sound)
 
     pub purity_left : Purity ops nums (i + 1)
     unfolding size

@@ -1,12 +1,12 @@
 -- Runs of stores: two runs, one behind the other, are one; what the code's stores leave.
-use mathlib.Core.Path.{◌≡◌, sym, ap, ◌∙◌}
+use mathlib.Core.Path.{◌≡◌, refl, sym, ap, ◌∙◌}
 use mathlib.Core.List.{List, [], ◌∷◌, ◌++◌}
-use Prim.Native.Nat.{ℕ, suc, ◌+◌}
-use native.Mathlib.Omega.{arith}
-use native.Mathlib.Numerals.{add-one}
+use Prim.Native.Nat.{ℕ, suc, ◌+◌, ◌≤◌}
 use native.Mathlib.Nat.{add-zero, add-suc, suc-add}
-use lib.ListN.{length, set}
-use lib.Seq.{sets, length-sets}
+use lib.ListN.{length, set, take, drop}
+use lib.Seq.{sets, sets-eq, length-sets, take-length}
+use borrow.Rule.Slice.PartMut.{put_mid}
+use Rattle.std.proofs.lemmas.Slice.{put_mid-paste}
 
 pub sets_append : (xs ys l : List ℕ) (i : ℕ) → sets (sets l i xs) (i + length xs) ys ≡ sets l i (xs ++ ys)
 sets_append [] ys l i = ap (λ (n : ℕ). sets l n ys) (add-zero i)
@@ -22,11 +22,9 @@ sets_then l l₁ l₂ xs ys i j p q e =
 pub same_length : (l l₁ xs : List ℕ) (i : ℕ) → l₁ ≡ sets l i xs → length l₁ ≡ length l
 same_length l l₁ xs i p = ap length p ∙ length-sets l i xs
 
-module _ (l : List ℕ) (i a b c : ℕ) where
-  pub stored_two : set (set l i a) (i + 1) b ≡ sets l i (a ∷ b ∷ [])
-  stored_two = ap (λ (n : ℕ). set (set l i a) n b) (add-one i)
-
-  pub stored_three : set (set (set l i a) (i + 1) b) (i + 2) c ≡ sets l i (a ∷ b ∷ c ∷ [])
-  stored_three =
-      ap (λ (n : ℕ). set (set (set l i a) n b) (i + 2) c) (add-one i)
-      ∙ ap (λ (n : ℕ). set (set (set l i a) (suc i) b) n c) (omega arith)
+-- a part of a list in which a run was put is the list with the run stored there
+pub put_sets : (l ws vs : List ℕ) (a k : ℕ) → ws ≡ vs → k ≡ length vs → a + length vs ≤ length l → put_mid a k l ws ≡ sets l a vs
+put_sets l ws vs a k e h b =
+    put_mid-paste a k l ws vs (length vs) e (sym h) refl
+    ∙ ap (λ (x : List ℕ). take a l ++ x ++ drop (a + length vs) l) (take-length vs)
+    ∙ sym (sets-eq vs l a b)

@@ -2,7 +2,6 @@
 --     skeleton    two numbers an entry, in prefix order: `safety_entry` and the place of a safety leaf; `owed_entry` and the number of an
 --                 obligation; for a word its number in a formula table and 0
 --     owed        three numbers an obligation: `eventually_kind` and a place, or `until_kind` and two places
---     result_of    document 01's result of the answer enum
 --     splitting   the result for what is lent, with refusals 1 and 2, and both slices afterwards
 use Rattle.std.specs.Prelude.{◌≡◌, Bool, true, false, ◌&&◌, List, [], ◌∷◌, ◌++◌, ℕ, ◌+◌, ◌*◌, ◌≤◌, leb, length}
 use Rattle.std.proofs.Math.Option.{Option, none, some}
@@ -10,15 +9,18 @@ use Rattle.std.proofs.lemmas.List.Edits.{sets}
 use Rattle.terms.specs.Limits.{owed_room, skeleton_room}
 use Rattle.terms.specs.Ops.{not_op, and_op, or_op, implies_op}
 use Rattle.terms.specs.Entries.{safety_entry, owed_entry, eventually_kind, until_kind}
+use Rattle.std.specs.Prelude.{Option as Opt, Some, None}
+use Rattle.std.specs.Prelude.{Result as Returned}
 use Rattle.result.specs.Result.{Result, given, refused as no_result}
+use Rattle.result.specs.Refusal.{told}
+use Rattle.result.specs.declared.Refusal.{Refusal}
 use Rattle.formula.specs.Tree.{size}
 use Rattle.formula.specs.Spells.{Spells}
 use Rattle.formula.specs.Formula.{Formula}
 use Rattle.formula.specs.Table.{node_at, Placed, rule_of, roomy}
 use Rattle.formula.specs.Pure.{pure}
 use Rattle.liveness.specs.Split.{faults, Obligation, E, U, Skeleton, safety, owed, Not, And, Or, Implies, skeleton_of, obligations_of, owes, Answer, none as no-parts, parts, refused, split_of}
-use Rattle.split.specs.declared.parts.Liveness.{Liveness}
-use Rattle.split.specs.declared.parts.Liveness.TheVariants.{None, Parts, Refused}
+use Rattle.split.specs.declared.parts.Parts.{Parts}
 use Rattle.split.specs.declared.parts.Filled.{Filled}
 
 unfoldable pub entries : Skeleton → ℕ
@@ -46,29 +48,19 @@ owed_cells [] = []
 owed_cells (o ∷ os) = obligation_cells o ++ owed_cells os
 
 -- ---- the entry point: document 01's result and the lent slices afterwards
--- what is given: that no split is asked for, or how many entries and obligations the split has
-pub data Split : Type 0 where
-  no_split : Split
-  split : ℕ → ℕ → Split
-
--- document 01's result of an answer
-abbrev pub result_of : Liveness → Result Split
-result_of None = given no_split
-result_of (Parts n k) = given (split n k)
-result_of (Refused n) = no_result n
-
+-- what is given: none where no split is asked for, or how many entries and obligations the split has
 pub data Outcome : Type 0 where
-  settled : Result Split → List ℕ → List ℕ → Outcome
+  settled : Result (Opt Parts) → List ℕ → List ℕ → Outcome
 
--- an answer's result, and the slices
-abbrev pub outcome : Liveness → List ℕ → List ℕ → Outcome
-outcome r s o = settled (result_of r) s o
+-- what an answer tells, and the slices
+abbrev pub outcome : Returned (Opt Parts) Refusal → List ℕ → List ℕ → Outcome
+outcome r s o = settled (told r) s o
 
 -- document 01's answer as a result and the two slices: only a split is written, from the slices' first place on
 abbrev pub held : Answer → List ℕ → List ℕ → Outcome
-held no-parts s o = settled (given no_split) s o
+held no-parts s o = settled (given None) s o
 held (refused n) s o = settled (no_result n) s o
-held (parts sk os) s o = settled (given (split (entries sk) (length os))) (sets s 0 (skeleton_cells sk)) (sets o 0 (owed_cells os))
+held (parts sk os) s o = settled (given (Some (record { skeleton = entries sk; owed = length os }))) (sets s 0 (skeleton_cells sk)) (sets o 0 (owed_cells os))
 
 -- refusal 1: the formula table has 1,024 nodes, and each output room for 256 entries
 abbrev pub roomy_split : List ℕ → List ℕ → List ℕ → List ℕ → Bool

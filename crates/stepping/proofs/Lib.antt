@@ -4,7 +4,6 @@ pub mod Subtrees
 pub mod Walking
 pub mod Fitting
 pub mod Calling
-pub mod Telling
 pub mod Staying
 pub mod Filling
 pub mod Starting

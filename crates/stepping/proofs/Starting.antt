@@ -15,8 +15,7 @@ use Rattle.monitor.specs.declared.range.AnchorRange.{AnchorRange}
 use Rattle.monitor.specs.declared.node.SignalExpr.{SignalExpr}
 use Rattle.monitor.specs.declared.node.MonNode.{MonNode}
 use Rattle.monitor.specs.declared.node.MonNode.TheVariants.{RangeCheck, DelayedCheck, Obligation, And as AndNode, Or as OrNode}
-use Rattle.monitor.specs.declared.node.Row.{Row}
-use Rattle.monitor.specs.declared.node.Row.TheVariants.{Node, Unknown}
+use Rattle.std.specs.Prelude.{None, Option, Some}
 use Rattle.monitor.specs.Mon.{Check, range_check, delayed_check, obligation, Mon, check, And, Or, count, node_of}
 use Rattle.monitor.specs.Table.{row_of, form_at, cell, range_from, expr_from}
 use Rattle.meaning.specs.Culprit.{minus_one}
@@ -100,29 +99,29 @@ set_column nodes l col i n k h g =
     ∙ get_d_column nodes col n i k g
 
 -- ---- a row's form and bound are those of the node that it holds
-abbrev row_with : ℕ → ℕ → AnchorRange → SignalExpr → SignalExpr → Row
+abbrev row_with : ℕ → ℕ → AnchorRange → SignalExpr → SignalExpr → Option MonNode
 row_with form b r s t =
-    pick (ltb form 1) (Node (RangeCheck s r))
-    (pick (ltb form 2) (Node (DelayedCheck s t r))
-    (pick (ltb form 3) (Node (Obligation b s t r))
-    (pick (ltb form 4) (Node AndNode)
-    (pick (ltb form 5) (Node OrNode) Unknown))))
+    pick (ltb form 1) (Some (RangeCheck s r))
+    (pick (ltb form 2) (Some (DelayedCheck s t r))
+    (pick (ltb form 3) (Some (Obligation b s t r))
+    (pick (ltb form 4) (Some AndNode)
+    (pick (ltb form 5) (Some OrNode) None))))
 
-no_row : (f b : ℕ) (r : AnchorRange) (s t : SignalExpr) → 5 ≤ f → row_with f b r s t ≡ Unknown
+no_row : (f b : ℕ) (r : AnchorRange) (s t : SignalExpr) → 5 ≤ f → row_with f b r s t ≡ None
 no_row f b r s t h =
-    ap (λ (x : Bool). pick x (Node (RangeCheck s r)) (pick (ltb f 2) (Node (DelayedCheck s t r)) (pick (ltb f 3) (Node (Obligation b s t r)) (pick (ltb f 4) (Node AndNode) (pick (ltb f 5) (Node OrNode) Unknown))))) (le-ltb f 1 (omega arith))
-    ∙ ap (λ (x : Bool). pick x (Node (DelayedCheck s t r)) (pick (ltb f 3) (Node (Obligation b s t r)) (pick (ltb f 4) (Node AndNode) (pick (ltb f 5) (Node OrNode) Unknown)))) (le-ltb f 2 (omega arith))
-    ∙ ap (λ (x : Bool). pick x (Node (Obligation b s t r)) (pick (ltb f 4) (Node AndNode) (pick (ltb f 5) (Node OrNode) Unknown))) (le-ltb f 3 (omega arith))
-    ∙ ap (λ (x : Bool). pick x (Node AndNode) (pick (ltb f 5) (Node OrNode) Unknown)) (le-ltb f 4 (omega arith))
-    ∙ ap (λ (x : Bool). pick x (Node OrNode) Unknown) (le-ltb f 5 h)
+    ap (λ (x : Bool). pick x (Some (RangeCheck s r)) (pick (ltb f 2) (Some (DelayedCheck s t r)) (pick (ltb f 3) (Some (Obligation b s t r)) (pick (ltb f 4) (Some AndNode) (pick (ltb f 5) (Some OrNode) None))))) (le-ltb f 1 (omega arith))
+    ∙ ap (λ (x : Bool). pick x (Some (DelayedCheck s t r)) (pick (ltb f 3) (Some (Obligation b s t r)) (pick (ltb f 4) (Some AndNode) (pick (ltb f 5) (Some OrNode) None)))) (le-ltb f 2 (omega arith))
+    ∙ ap (λ (x : Bool). pick x (Some (Obligation b s t r)) (pick (ltb f 4) (Some AndNode) (pick (ltb f 5) (Some OrNode) None))) (le-ltb f 3 (omega arith))
+    ∙ ap (λ (x : Bool). pick x (Some AndNode) (pick (ltb f 5) (Some OrNode) None)) (le-ltb f 4 (omega arith))
+    ∙ ap (λ (x : Bool). pick x (Some OrNode) None) (le-ltb f 5 h)
 
-no_node : {x : MonNode} {B : Type 0} → Unknown ≡ Node x → B
+no_node : {x : MonNode} {B : Type 0} → None ≡ Some x → B
 no_node e = let z : ◌≡◌ {A = ℕ} 0 1 = cc in absurd (omega arith)
 
-node_inj : {a b : MonNode} → Node a ≡ Node b → a ≡ b
+node_inj : {a b : MonNode} → Some a ≡ Some b → a ≡ b
 node_inj e = cc
 
-own_row : (form b : ℕ) (r : AnchorRange) (s t : SignalExpr) (x : MonNode) → row_with form b r s t ≡ Node x → OwnNode x form b
+own_row : (form b : ℕ) (r : AnchorRange) (s t : SignalExpr) (x : MonNode) → row_with form b r s t ≡ Some x → OwnNode x form b
 own_row zero b r s t x e = subst (λ (n : MonNode). OwnNode n 0 b) (node_inj e) refl
 own_row (suc zero) b r s t x e = subst (λ (n : MonNode). OwnNode n 1 b) (node_inj e) refl
 own_row (suc (suc zero)) b r s t x e = subst (λ (n : MonNode). OwnNode n 2 b) (node_inj e) (refl, refl)
@@ -137,7 +136,7 @@ module _ (nodes : List ℕ) (nfirst : ℕ) (forms bounds : List ℕ) (n : ℕ) (
   abbrev bounds' : List ℕ
   bounds' = sets bounds 0 (column nodes 1 nfirst n)
 
-  own_at : (k : ℕ) (x : MonNode) → k < n → row_of nodes (nfirst + k) ≡ Node x → OwnNode x (get_or forms' k 0) (get_or bounds' k 0)
+  own_at : (k : ℕ) (x : MonNode) → k < n → row_of nodes (nfirst + k) ≡ Some x → OwnNode x (get_or forms' k 0) (get_or bounds' k 0)
   unfolding row_of
   own_at k x g q =
       let o : 7 * (nfirst + k) + 0 ≡ 7 * (nfirst + k) = omega arith in

@@ -5,11 +5,13 @@
 --     accepted_windows   an accepted call steps each window of the monitor's obligations as crates/meaning says
 use mathlib.Core.Path.{◌≡◌, sym, ap, subst, ◌∙◌}
 use mathlib.Core.Bool.{Bool}
-use Prim.Native.Nat.{ℕ, suc, ◌+◌, ◌<◌}
+use Prim.Native.Nat.{ℕ, ◌+◌, ◌<◌}
 use native.Mathlib.Omega.{arith}
 use lib.Dec.{ltb}
 use borrow.Author.Tests.{lt-ltb, ltb-true}
-use Rattle.result.specs.Result.{given, refused}
+use Rattle.std.specs.Prelude.{Ok, Err}
+use Rattle.result.specs.declared.Refusal.{Refusal}
+use Rattle.result.specs.declared.Refusal.TheVariants.{Late}
 use Rattle.monitor.specs.Mon.{Mon, check, range_check, delayed_check, obligation, And, Or, count}
 use Rattle.meaning.specs.State.{State, WellShaped, step, joined_step, newly_failed}
 use Rattle.meaning.proofs.Meaning.{step_shaped, window_ticks, window_closes, window_opens, stays_marked}
@@ -46,13 +48,13 @@ pub record Stays (t : LentTables) (k : LentMonitor) (m : Mon) (s w : ℕ) : Type
   pub again : Ready (with k (step_call t k s w).memory) m
 
 module _ (t : LentTables) (k : LentMonitor) (m : Mon) (a : HoldsRule t m) (d : Ready k m) (s w : ℕ) where
-  pub ready_call : step_call t k s w ≡ or_refuse (ltb s 9223372036854775808) 24 k.memory (accept m k.memory s w)
+  pub ready_call : step_call t k s w ≡ or_refuse (ltb s 9223372036854775808) Late k.memory (accept m k.memory s w)
   unfolding step_call
   ready_call = ready_called t k (ltb s 9223372036854775808) (λ n. accept n k.memory s w) m a d
 
   pub stays_ready : s < 9223372036854775808 → Stays t k m s w
   stays_ready h =
-      let e : step_call t k s w ≡ accept m k.memory s w = ready_call ∙ ap (λ (b : Bool). or_refuse b 24 k.memory (accept m k.memory s w)) (lt-ltb s 9223372036854775808 h) in
+      let e : step_call t k s w ≡ accept m k.memory s w = ready_call ∙ ap (λ (b : Bool). or_refuse b Late k.memory (accept m k.memory s w)) (lt-ltb s 9223372036854775808 h) in
       record {
         accepted = e;
         again = subst (λ (c : Effect Bool). Ready (with k c.memory) m) (sym e) (ready_written t k m a d (step m (read_mon m k.memory 0) s w).state (step_shaped m (read_mon m k.memory 0) s w (fits_inv m k d.fit).1.kept));
@@ -60,7 +62,7 @@ module _ (t : LentTables) (k : LentMonitor) (m : Mon) (a : HoldsRule t m) (d : R
 
 -- ---- whatever is lent
 pub data Answered (t : LentTables) (k : LentMonitor) (s w : ℕ) (c : Effect Bool) : Type 0 where
-  no_step : (n : ℕ) → c ≡ refuse n k.memory → Answered t k s w c
+  no_step : (r : Refusal) → c ≡ refuse r k.memory → Answered t k s w c
   steps : (m : Mon) → HoldsRule t m → Ready k m → s < 9223372036854775808 → c ≡ accept m k.memory s w → Answered t k s w c
 
 module _ (t : LentTables) (k : LentMonitor) (s w : ℕ) where
@@ -69,17 +71,17 @@ module _ (t : LentTables) (k : LentMonitor) (s w : ℕ) where
   answered = go (went t k (ltb s 9223372036854775808) (λ m. accept m k.memory s w))
     where
       go : Went t k (ltb s 9223372036854775808) (λ m. accept m k.memory s w) (step_call t k s w) → Answered t k s w (step_call t k s w)
-      go (stops n e q) = no_step (suc n) q
-      go (late m a d h q) = no_step 24 q
+      go (stops n e q) = no_step n q
+      go (late m a d h q) = no_step Late q
       go (goes m a d h q) = steps m a d (ltb-true s 9223372036854775808 h) q
 
-  pub refused_leaves : (n : ℕ) → (step_call t k s w).answer ≡ refused n → (step_call t k s w).memory ≡ k.memory
-  refused_leaves n q = go answered
+  pub refused_leaves : (r : Refusal) → (step_call t k s w).answer ≡ Err r → (step_call t k s w).memory ≡ k.memory
+  refused_leaves r q = go answered
     where
       go : Answered t k s w (step_call t k s w) → (step_call t k s w).memory ≡ k.memory
       go (no_step i e) = ap (λ (c : Effect Bool). c.memory) e
       go (steps m a d h e) =
-          let p : (step_call t k s w).answer ≡ given (newly_failed m (read_mon m k.memory 0) s w) = ap (λ (c : Effect Bool). c.answer) e in
+          let p : (step_call t k s w).answer ≡ Ok (newly_failed m (read_mon m k.memory 0) s w) = ap (λ (c : Effect Bool). c.answer) e in
           let z : ◌≡◌ {A = ℕ} 0 1 = cc in
           absurd (omega arith)
 
@@ -97,19 +99,19 @@ step_windows (check (obligation b p q r)) st s w h = record {
 step_windows (And m n) st s w h = (step_windows m st.left s w h.0, step_windows n st.right s w h.1)
 step_windows (Or m n) st s w h = (step_windows m st.left s w h.0, step_windows n st.right s w h.1)
 
-pub accepted_windows : (t : LentTables) (k : LentMonitor) (s w : ℕ) (broken : Bool) → (step_call t k s w).answer ≡ given broken → StepTaken t k s w broken
+pub accepted_windows : (t : LentTables) (k : LentMonitor) (s w : ℕ) (broken : Bool) → (step_call t k s w).answer ≡ Ok broken → StepTaken t k s w broken
 accepted_windows t k s w broken q = go (answered t k s w)
   where
     go : Answered t k s w (step_call t k s w) → StepTaken t k s w broken
     go (no_step n e) =
-        let p : (step_call t k s w).answer ≡ refused n = ap (λ (c : Effect Bool). c.answer) e in
+        let p : (step_call t k s w).answer ≡ Err n = ap (λ (c : Effect Bool). c.answer) e in
         let z : ◌≡◌ {A = ℕ} 0 1 = cc in
         absurd (omega arith)
     go (steps m a d h e) =
         let st = read_mon m k.memory 0 in
         let g : WellShaped m st = (fits_inv m k d.fit).1.kept in
         let r : read_mon m (step_call t k s w).memory 0 ≡ (step m st s w).state = ap (λ (c : Effect Bool). read_mon m c.memory 0) e ∙ read_back m (step m st s w).state k.memory 0 (inside_own t k m a d) in
-        let p : (step_call t k s w).answer ≡ given (newly_failed m st s w) = ap (λ (c : Effect Bool). c.answer) e in
+        let p : (step_call t k s w).answer ≡ Ok (newly_failed m st s w) = ap (λ (c : Effect Bool). c.answer) e in
         record {
           mon = m;
           rule = a.rule;

@@ -3,24 +3,19 @@ use mathlib.Core.Path.{◌≡◌, refl, sym, ap, ap₂, subst, ◌∙◌}
 use mathlib.Core.Bool.{Bool, true, false, ◌&&◌, ◌||◌}
 use mathlib.Core.Bool as bool
 use mathlib.Core.List.{List}
-use Prim.Native.Nat.{ℕ, ◌+◌, ◌-◌, ◌*◌, ◌≤◌, ◌<◌, ◌^◌}
+use Prim.Native.Nat.{ℕ, ◌+◌, ◌*◌, ◌≤◌, ◌<◌}
 use native.Mathlib.Omega.{arith}
 use lib.ListN.{length}
-use mir.Syntax.{w64}
-use mir.Val.{Fits}
 use Rattle.terms.specs.Choice.{pick}
 use Rattle.formula.proofs.Cases.{true_false}
 use Rattle.monitor.specs.declared.node.MonNode.{MonNode}
 use Rattle.monitor.specs.declared.node.MonNode.TheVariants.{And as AndNode, Or as OrNode}
-use Rattle.monitor.specs.declared.node.Row.{Row}
-use Rattle.monitor.specs.declared.node.Row.TheVariants.{Node, Unknown}
+use Rattle.std.specs.Prelude.{None, Option, Some}
 use Rattle.monitor.specs.Mon.{Check, range_check, delayed_check, obligation, Mon, check, And, Or, count, node_of}
 use Rattle.monitor.specs.Table.{row_of}
-use Rattle.meaning.specs.State.{State, CheckShaped, WellShaped, joined_step, step, culprit, failed, least, offered}
+use Rattle.meaning.specs.State.{State, CheckShaped, WellShaped, joined_step, step, culprit, least, offered}
 use Rattle.node_step.specs.declared.state.MonState.{MonState}
 use Rattle.stepping.specs.declared.walk.NodeOut.{NodeOut}
-use Rattle.node_step.specs.declared.joined.Parts.{Parts}
-use Rattle.node_step.specs.declared.joined.Parts.TheVariants.{Single, Joined}
 use Rattle.node_step.specs.Memory.{Memory, get, put, Inside}
 use Rattle.node_step.specs.Check.{read_check, CheckStepped}
 use Rattle.lent.specs.Nodes.{NodesAt}
@@ -30,16 +25,16 @@ use Rattle.node_step.proofs.Entries.{inside_less}
 use Rattle.stepping.proofs.Subtrees.{subtree}
 use Rattle.stepping.proofs.Memories.{inside_write, count_pos, write_before, write_past, SameFrom, read_same, blameless_same, shaped_same, culprit_written}
 
-node_inj : {a b : MonNode} → Node a ≡ Node b → a ≡ b
+node_inj : {a b : MonNode} → Some a ≡ Some b → a ≡ b
 node_inj e = cc
 
-single_joined : {B : Type 0} {any : Bool} → Single ≡ Joined any → B
+single_joined : {B : Type 0} {any : Bool} → None ≡ Some any → B
 single_joined e = let z : ◌≡◌ {A = ℕ} 0 1 = cc in absurd (omega arith)
 
-joined_inj : {a b : Bool} → Joined a ≡ Joined b → a ≡ b
+joined_inj : {a b : Bool} → Some a ≡ Some b → a ≡ b
 joined_inj e = cc
 
-check_single : (c : Check) → parts_of (node_of c) ≡ Single
+check_single : (c : Check) → parts_of (node_of c) ≡ None
 check_single (range_check p r) = refl
 check_single (delayed_check p q r) = refl
 check_single (obligation b p q r) = refl
@@ -73,23 +68,23 @@ module _ (ops nums nodes : List ℕ) (nfirst : ℕ) (mem : Memory) (k s : ℕ) (
   walk_falls t h = omega arith
 
   -- the row is known
-  row_is : (x : Row) → x ≡ row_of nodes (nfirst + k) → (n : MonNode) × (x ≡ Node n)
+  row_is : (x : Option MonNode) → x ≡ row_of nodes (nfirst + k) → (n : MonNode) × (x ≡ Some n)
   unfolding NodesAt
   row_is x e = go d.mon d.stands
     where
-      go : (m : Mon) → NodesAt ops nums nodes (nfirst + k) m → (n : MonNode) × (x ≡ Node n)
+      go : (m : Mon) → NodesAt ops nums nodes (nfirst + k) m → (n : MonNode) × (x ≡ Some n)
       go (check c) a = (node_of c, e ∙ a.0)
       go (And m n) a = (AndNode, e ∙ a.0)
       go (Or m n) a = (OrNode, e ∙ a.0)
 
-  pub no_row : (x : Row) (w : ℕ) (mem' : Memory) (r : NodeOut) → x ≡ row_of nodes (nfirst + k) → x ≡ Unknown → NodeStepped ops nums nodes nfirst mem k s w mem' r
+  pub no_row : (x : Option MonNode) (w : ℕ) (mem' : Memory) (r : NodeOut) → x ≡ row_of nodes (nfirst + k) → x ≡ None → NodeStepped ops nums nodes nfirst mem k s w mem' r
   no_row x w mem' r e q =
       let (n, p) = row_is x e in
-      let z : ◌≡◌ {A = Row} (Node n) Unknown = sym p ∙ q in
+      let z : ◌≡◌ {A = Option MonNode} (Some n) None = sym p ∙ q in
       let z' : ◌≡◌ {A = ℕ} 0 1 = cc in absurd (omega arith)
 
-  module _ (x : Row) (node : MonNode) (p : Parts) (e : x ≡ row_of nodes (nfirst + k)) (q : x ≡ Node node) (u : p ≡ parts_of node) where
-    pub leaf_ready : p ≡ Single → Leaf ops nums nodes nfirst mem node k s
+  module _ (x : Option MonNode) (node : MonNode) (p : Option Bool) (e : x ≡ row_of nodes (nfirst + k)) (q : x ≡ Some node) (u : p ≡ parts_of node) where
+    pub leaf_ready : p ≡ None → Leaf ops nums nodes nfirst mem node k s
     unfolding NodesAt count
     leaf_ready v = go d.mon d.stands d.shaped d.inside
       where
@@ -104,7 +99,7 @@ module _ (ops nums nodes : List ℕ) (nfirst : ℕ) (mem : Memory) (k s : ℕ) (
         go (And m n) a b i = single_joined (sym v ∙ u ∙ ap parts_of (node_inj (sym q ∙ e ∙ a.0)))
         go (Or m n) a b i = single_joined (sym v ∙ u ∙ ap parts_of (node_inj (sym q ∙ e ∙ a.0)))
 
-    pub pair_ready : (any : Bool) → p ≡ Joined any → Pair ops nums nodes nfirst mem any k s
+    pub pair_ready : (any : Bool) → p ≡ Some any → Pair ops nums nodes nfirst mem any k s
     unfolding NodesAt
     pair_ready any v = go d.mon d.stands d.in_nodes d.inside d.shaped
       where
@@ -143,7 +138,7 @@ abbrev row_node : Bool → MonNode
 row_node true = AndNode
 row_node false = OrNode
 
-join_row : (any : Bool) (ops nums nodes : List ℕ) (i : ℕ) (m n : Mon) → NodesAt ops nums nodes i (join_of any m n) → row_of nodes i ≡ Node (row_node any)
+join_row : (any : Bool) (ops nums nodes : List ℕ) (i : ℕ) (m n : Mon) → NodesAt ops nums nodes i (join_of any m n) → row_of nodes i ≡ Some (row_node any)
 unfolding NodesAt
 join_row true ops nums nodes i m n a = a.0
 join_row false ops nums nodes i m n a = a.0
@@ -178,9 +173,6 @@ module _ (ops nums nodes : List ℕ) (nfirst : ℕ) (mem : Memory) (any : Bool) 
     below = d.below;
   }
 
-  pub pair_row : 7 * (nfirst + k + 1) ≤ length nodes
-  pair_row = omega (arith, d.in_nodes, count_join any d.left d.right)
-
   pair_size : mon_nodes nodes (nfirst + k) ≡ 1 + count d.left + count d.right
   pair_size =
       subtree ops nums nodes (nfirst + k) (join_of any d.left d.right) d.stands (omega (arith, d.in_nodes))
@@ -191,9 +183,6 @@ module _ (ops nums nodes : List ℕ) (nfirst : ℕ) (mem : Memory) (any : Bool) 
   left_falls t h =
       let e = left_walk in
       omega (arith, pair_size, subtree ops nums nodes (nfirst + (k + 1)) d.left e.stands (omega (arith, e.in_nodes)), count_pos d.right)
-
-  pub pair_next_fits : length mem.held < 2 ^ 64 → Fits w64 (k + 1)
-  pair_next_fits h = record { fits = omega (arith, d.inside.held, count_join any d.left d.right) }
 
   module _ (w : ℕ) (mem₁ : Memory) (l : NodeOut) (c : NodeStepped ops nums nodes nfirst mem (k + 1) s w mem₁ l) where
     -- the left part, stepped
@@ -283,7 +272,7 @@ module _ (ops nums nodes : List ℕ) (nfirst : ℕ) (mem : Memory) (any : Bool) 
         unfolding NodesAt
         pair_stepped = record { is = go any refl }
           where
-            row : (v : Bool) → any ≡ v → row_of nodes (nfirst + k) ≡ Node (row_node v)
+            row : (v : Bool) → any ≡ v → row_of nodes (nfirst + k) ≡ Some (row_node v)
             row v e = join_row v ops nums nodes (nfirst + k) d.left d.right (subst (λ (x : Bool). NodesAt ops nums nodes (nfirst + k) (join_of x d.left d.right)) e d.stands)
 
             go : (any' : Bool) → any ≡ any' → (m : Mon) → NodesAt ops nums nodes (nfirst + k) m → ShapedAt m mem k → Inside mem (k + count m) → (b ≡ (step m (read_mon m mem k) s w).now) × (r.next ≡ k + count m) × (mem₃ ≡ write_mon m (step m (read_mon m mem k) s w).state mem k)

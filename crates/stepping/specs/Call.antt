@@ -1,51 +1,40 @@
--- A call on a monitor as one total function from what it is lent to document 01's result and the monitor afterwards.
+-- A call on a monitor as one total function from what it is lent to its answer and the monitor afterwards.
 --     called      any call: 1, then 2, then 24, else what it does
 --     step_call    the step call
 --     Answers     what a call answers and leaves is what such a function says
-use Rattle.std.specs.Prelude.{Bool, true, false, ◌≡◌, ℕ, ltb}
+use Rattle.std.specs.Prelude.{Bool, true, false, ◌≡◌, ℕ, ltb, Result, Ok, Err}
 use Rattle.std.proofs.Math.Option.{Option, none, some}
 use Rattle.terms.specs.Limits.{steps}
-use Rattle.result.specs.Result.{Result, given, refused}
+use Rattle.result.specs.declared.Refusal.{Refusal}
+use Rattle.result.specs.declared.Refusal.TheVariants.{Short, Unfit, Late}
 use Rattle.monitor.specs.Mon.{Mon}
 use Rattle.meaning.specs.State.{step, newly_failed}
 use Rattle.node_step.specs.Memory.{Memory}
 use Rattle.lent.specs.Lent.{LentTables, LentMonitor, is_lent, rule_mon, fits, HoldsRule, Ready, monitor_of}
-use Rattle.stepping.specs.declared.call.Verdict.{Verdict}
-use Rattle.stepping.specs.declared.call.Verdict.TheVariants.{Accepted, Refused}
 use Rattle.stepping.specs.Walk.{read_mon, write_mon}
 
--- the result that each answer is: accepted, and whether the rule is newly broken; or the refusal
-abbrev pub result_of : Verdict → Result Bool
-result_of (Accepted b) = given b
-result_of (Refused n) = refused n
-
--- and the answer that tells a result
-abbrev pub verdict_of : Result Bool → Verdict
-verdict_of (given b) = Accepted b
-verdict_of (refused n) = Refused n
-
 -- ---- a call on a monitor
--- what it does: document 01's result, and the memory afterwards
+-- what it does: the answer, or the refusal, whose number is document 01's (crate result), and the memory afterwards
 pub record Effect (A : Type 0) : Type 0 where
-  pub answer : Result A
+  pub answer : Result A Refusal
   pub memory : Memory
 
-abbrev pub refuse : {A : Type 0} → ℕ → Memory → Effect A
-refuse n mem = record { answer = refused n; memory = mem }
+abbrev pub refuse : {A : Type 0} → Refusal → Memory → Effect A
+refuse r mem = record { answer = Err r; memory = mem }
 
-abbrev pub or_refuse : {A : Type 0} → Bool → ℕ → Memory → Effect A → Effect A
-or_refuse true n mem c = c
-or_refuse false n mem c = refuse n mem
+abbrev pub or_refuse : {A : Type 0} → Bool → Refusal → Memory → Effect A → Effect A
+or_refuse true r mem c = c
+or_refuse false r mem c = refuse r mem
 
 abbrev pub over_rule : {A : Type 0} → Option Mon → LentMonitor → Bool → (Mon → Effect A) → Effect A
-over_rule none k timely does = refuse 2 k.memory
-over_rule (some m) k timely does = or_refuse (fits m k) 2 k.memory (or_refuse timely 24 k.memory (does m))
+over_rule none k timely does = refuse Unfit k.memory
+over_rule (some m) k timely does = or_refuse (fits m k) Unfit k.memory (or_refuse timely Late k.memory (does m))
 
 -- for whatever is lent: 1, then 2, then 24 where it is not timely, else what the call does to a monitor of the rule
 abbrev pub called : {A : Type 0} → LentTables → LentMonitor → Bool → (Mon → Effect A) → Effect A
-called t k timely does = or_refuse (is_lent t k) 1 k.memory (over_rule (rule_mon t) k timely does)
+called t k timely does = or_refuse (is_lent t k) Short k.memory (over_rule (rule_mon t) k timely does)
 
-pub record Answers {A : Type 0} (c : Effect A) (r : Result A) (mem : Memory) : Type 0 where
+pub record Answers {A : Type 0} (c : Effect A) (r : Result A Refusal) (mem : Memory) : Type 0 where
   pub answers : r ≡ c.answer
   pub leaves : mem ≡ c.memory
 
@@ -56,7 +45,7 @@ with k mem = monitor_of k.size k.forms k.bounds mem
 -- ---- the step call
 abbrev pub accept : Mon → Memory → ℕ → ℕ → Effect Bool
 accept m mem s w = record {
-  answer = given (newly_failed m (read_mon m mem 0) s w);
+  answer = Ok (newly_failed m (read_mon m mem 0) s w);
   memory = write_mon m (step m (read_mon m mem 0) s w).state mem 0;
 }
 
@@ -72,7 +61,7 @@ pub record Fit (t : LentTables) (k : LentMonitor) (timely : Bool) : Type 0 where
   pub on_time : timely ≡ true
 
 abbrev pub accept_mon : Option Mon → Memory → ℕ → ℕ → Effect Bool
-accept_mon none mem s w = refuse 2 mem
+accept_mon none mem s w = refuse Unfit mem
 accept_mon (some m) mem s w = accept m mem s w
 
 abbrev pub accept_of : LentTables → LentMonitor → ℕ → ℕ → Effect Bool

@@ -1,13 +1,12 @@
--- A fresh monitor as one total function from what is lent to document 01's result and the monitor afterwards.
-use Rattle.std.specs.Prelude.{Bool, true, false, List, [], ◌∷◌, ◌≡◌, ℕ, zero, suc, ◌+◌, ◌*◌, get_or, replicate}
+-- A fresh monitor as one total function from what is lent to its answer and the monitor afterwards.
+use Rattle.std.specs.Prelude.{Bool, true, false, List, [], ◌∷◌, ◌≡◌, ℕ, zero, suc, ◌+◌, ◌*◌, get_or, replicate, Result, Ok, Err}
 use Rattle.std.proofs.Math.Option.{Option, none, some}
 use Rattle.std.proofs.lemmas.List.Edits.{sets}
 use Rattle.terms.specs.Limits.{row_cells}
-use Rattle.result.specs.Result.{Result, given, refused}
+use Rattle.result.specs.declared.Refusal.{Refusal}
+use Rattle.result.specs.declared.Refusal.TheVariants.{Short, Unfit}
 use Rattle.monitor.specs.Mon.{Mon}
 use Rattle.meaning.specs.Culprit.{minus_one}
-use Rattle.stepping.specs.declared.fresh.Outcome.{Outcome}
-use Rattle.stepping.specs.declared.fresh.Outcome.TheVariants.{Made, Refused}
 use Rattle.node_step.specs.Memory.{Memory}
 use Rattle.lent.specs.Lent.{LentTables, LentMonitor, monitor_of, lent_of, rule_mon}
 
@@ -34,34 +33,25 @@ fresh_of t k = record {
   memory = cleared k.memory t.ncount;
 }
 
--- the result that each answer is: the count of the nodes that a monitor was made for, or the refusal
-abbrev pub result_of : Outcome → Result ℕ
-result_of (Made n) = given n
-result_of (Refused n) = refused n
-
--- and the answer that tells a result
-abbrev pub outcome_of : Result ℕ → Outcome
-outcome_of (given n) = Made n
-outcome_of (refused n) = Refused n
-
+-- the answer, the count of the nodes that a monitor was made for or the refusal, and the monitor afterwards
 pub record Making : Type 0 where
-  pub answer : Result ℕ
+  pub answer : Result ℕ Refusal
   pub forms : List ℕ
   pub bounds : List ℕ
   pub memory : Memory
 
-abbrev pub refuse : ℕ → List ℕ → List ℕ → Memory → Making
-refuse n forms bounds mem = record { answer = refused n; forms = forms; bounds = bounds; memory = mem }
+abbrev pub refuse : Refusal → List ℕ → List ℕ → Memory → Making
+refuse r forms bounds mem = record { answer = Err r; forms = forms; bounds = bounds; memory = mem }
 
 abbrev pub make_mon : Option Mon → LentTables → List ℕ → List ℕ → Memory → Making
-make_mon none t forms bounds mem = refuse 2 forms bounds mem
+make_mon none t forms bounds mem = refuse Unfit forms bounds mem
 make_mon (some m) t forms bounds mem =
     let k = fresh_of t (monitor_of 0 forms bounds mem) in
-    record { answer = given t.ncount; forms = k.forms; bounds = k.bounds; memory = k.memory }
+    record { answer = Ok t.ncount; forms = k.forms; bounds = k.bounds; memory = k.memory }
 
 abbrev pub or_short : Bool → List ℕ → List ℕ → Memory → Making → Making
 or_short true forms bounds mem c = c
-or_short false forms bounds mem c = refuse 1 forms bounds mem
+or_short false forms bounds mem c = refuse Short forms bounds mem
 
 -- document 01's answer to making a monitor, for whatever is lent: 1, then 2, else the fresh monitor
 unfoldable pub fresh_call : LentTables → List ℕ → List ℕ → Memory → Making
@@ -69,8 +59,8 @@ fresh_call t forms bounds mem =
     or_short (lent_of t.ops t.nums t.nodes forms bounds mem) forms bounds mem (make_mon (rule_mon t) t forms bounds mem)
 
 -- what it answers and leaves
-pub record FreshAnswers (t : LentTables) (forms bounds : List ℕ) (mem : Memory) (r : Outcome) (forms' bounds' : List ℕ) (mem' : Memory) : Type 0 where
-  pub answers : result_of r ≡ (fresh_call t forms bounds mem).answer
+pub record FreshAnswers (t : LentTables) (forms bounds : List ℕ) (mem : Memory) (r : Result ℕ Refusal) (forms' bounds' : List ℕ) (mem' : Memory) : Type 0 where
+  pub answers : r ≡ (fresh_call t forms bounds mem).answer
   pub forms_are : forms' ≡ (fresh_call t forms bounds mem).forms
   pub bounds_are : bounds' ≡ (fresh_call t forms bounds mem).bounds
   pub memory_is : mem' ≡ (fresh_call t forms bounds mem).memory

@@ -8,14 +8,12 @@ use Rattle.formula.specs.Tree.{Token, leaf_of, two_of, unknown}
 use Rattle.formula.specs.Spells.{nodes_at}
 use Rattle.monitor.specs.declared.node.MonNode.{MonNode}
 use Rattle.monitor.specs.declared.node.MonNode.TheVariants.{RangeCheck, DelayedCheck, Obligation, And as AndNode, Or as OrNode}
-use Rattle.monitor.specs.declared.node.Row.{Row}
-use Rattle.monitor.specs.declared.node.Row.TheVariants.{Node, Unknown}
+use Rattle.std.specs.Prelude.{None, Option, Some}
 use Rattle.monitor.specs.Mon.{Check, range_check, delayed_check, obligation, Mon, check, And, Or, count}
 use Rattle.monitor.specs.Table.{row_of}
 use Rattle.meaning.specs.Culprit.{minus_one}
 use Rattle.meaning.specs.State.{State, WellShaped, step}
 use Rattle.node_step.specs.declared.state.MonState.{MonState}
-use Rattle.node_step.specs.declared.joined.Parts.TheVariants.{Single}
 use Rattle.node_step.specs.Memory.{Memory, get, put, Inside}
 use Rattle.node_step.specs.Check.{read_check, write_check, Steppable}
 use Rattle.node_step.specs.Joined.{parts_of, joined_entry}
@@ -79,9 +77,9 @@ pub record NodeStepped (ops nums nodes : List ℕ) (nfirst : ℕ) (mem : Memory)
 -- ---- parts of the walk
 -- a check at node k
 pub record Leaf (ops nums nodes : List ℕ) (nfirst : ℕ) (mem : Memory) (node : MonNode) (k s : ℕ) : Type 0 where
-  pub row : row_of nodes (nfirst + k) ≡ Node node
+  pub row : row_of nodes (nfirst + k) ≡ Some node
   pub inside : Inside mem (k + 1)
-  pub single : parts_of node ≡ Single
+  pub single : parts_of node ≡ None
   pub steps : Steppable ops nums node (get mem k) s
 
 abbrev pub join_of : Bool → Mon → Mon → Mon
@@ -100,13 +98,13 @@ pub record Pair (ops nums nodes : List ℕ) (nfirst : ℕ) (mem : Memory) (any :
 
 -- ---- the measure of the walk
 -- a row as a token of a tree: a check has no parts, a joined node two
-abbrev pub token_of : Row → Token (Unit {0}) (Unit {0}) (Unit {0})
-token_of (Node (RangeCheck s r)) = leaf_of tt
-token_of (Node (DelayedCheck s t r)) = leaf_of tt
-token_of (Node (Obligation b s t r)) = leaf_of tt
-token_of (Node AndNode) = two_of tt
-token_of (Node OrNode) = two_of tt
-token_of Unknown = unknown
+abbrev pub token_of : Option MonNode → Token (Unit {0}) (Unit {0}) (Unit {0})
+token_of (Some (RangeCheck s r)) = leaf_of tt
+token_of (Some (DelayedCheck s t r)) = leaf_of tt
+token_of (Some (Obligation b s t r)) = leaf_of tt
+token_of (Some AndNode) = two_of tt
+token_of (Some OrNode) = two_of tt
+token_of None = unknown
 
 -- the size of the subtree in the rows from i on (`subtree`, proofs/Subtrees.antt), which falls from a node to its parts
 abbrev pub mon_nodes : List ℕ → ℕ → ℕ

@@ -1,14 +1,16 @@
 // The walk of a step: the walk of a node and the walk of a joined pair call each other.
 ghost use Rattle.std.specs.Prelude.{◌≡◌, false, ◌+◌, ◌<◌};
-ghost use Rattle.node_step.specs.Memory.{entries};
+ghost use Rattle.node_step.specs.Lists.{memory_of, SameLists};
 ghost use Rattle.stepping.specs.Walk.{NodeStepped, Walkable, Leaf, Pair};
 
-use monitor::node::{MonNode, Row, row_at};
+use monitor::node::{MonNode, row_at};
+use monitor::table::Tables;
 use node_step::check::step_check;
-use node_step::joined::{Parts, finish, joined_now, parts_of};
+use node_step::joined::{finish, joined_now, parts_of};
+use node_step::state::Memory;
 
 // Whether a node is failing now, and the node behind its parts.
-#[derive(Clone, Copy)]
+#[derive(Clone, Copy, Debug, PartialEq, Eq)]
 pub struct NodeOut {
     pub now: bool,
     pub next: usize,
@@ -16,70 +18,46 @@ pub struct NodeOut {
 
 // One check: its entry is read, stepped and stored.
 fn step_leaf(
-    ops: &[u8],
-    nums: &[u64],
-    nodes: &[u64],
+    tables: &Tables,
     nfirst: usize,
-    held: &mut [bool],
-    remaining: &mut [u64],
-    failed: &mut [bool],
-    culprits: &mut [i64],
+    memory: &mut Memory,
     node: MonNode,
     k: usize,
     s: u64,
     w: u64,
 ) -> NodeOut
-    requires { Leaf ops.now nums.now nodes.now nfirst (entries held.old remaining.old failed.old culprits.old) node k s }
-    ensures { NodeStepped ops.now nums.now nodes.now nfirst
-        (entries held.old remaining.old failed.old culprits.old) k s w
-        (entries held.new remaining.new failed.new culprits.new) result }
+    requires { Leaf tables.now.formulas.ops.now tables.now.formulas.nums.now tables.now.nodes.now nfirst (memory_of memory.old) node k s }
+    ensures stepped { NodeStepped tables.now.formulas.ops.now tables.now.formulas.nums.now tables.now.nodes.now nfirst
+        (memory_of memory.old) k s w
+        (memory_of memory.new) result }
+    ensures same { SameLists memory.old memory.new }
 {
-    let now = step_check(ops, nums, node, held, remaining, failed, culprits, k, s, w);
+    let now = step_check(&tables.formulas, node, memory, k, s, w);
     NodeOut { now, next: k + 1 }
 }
 
 // Both parts of a joined node, left and then right, and the node itself.
 #[cycle(step_node_step_pair)]
 fn step_pair(
-    ops: &[u8],
-    nums: &[u64],
-    nodes: &[u64],
+    tables: &Tables,
     nfirst: usize,
-    held: &mut [bool],
-    remaining: &mut [u64],
-    failed: &mut [bool],
-    culprits: &mut [i64],
+    memory: &mut Memory,
     any: bool,
     k: usize,
     s: u64,
     w: u64,
 ) -> NodeOut
-    requires { Pair ops.now nums.now nodes.now nfirst (entries held.old remaining.old failed.old culprits.old) any k s }
-    ensures { NodeStepped ops.now nums.now nodes.now nfirst
-        (entries held.old remaining.old failed.old culprits.old) k s w
-        (entries held.new remaining.new failed.new culprits.new) result }
+    requires { Pair tables.now.formulas.ops.now tables.now.formulas.nums.now tables.now.nodes.now nfirst (memory_of memory.old) any k s }
+    ensures stepped { NodeStepped tables.now.formulas.ops.now tables.now.formulas.nums.now tables.now.nodes.now nfirst
+        (memory_of memory.old) k s w
+        (memory_of memory.new) result }
+    ensures same { SameLists memory.old memory.new }
 {
-    let left = step_node(
-        ops,
-        nums,
-        nodes,
-        nfirst,
-        held,
-        remaining,
-        failed,
-        culprits,
-        k + 1,
-        s,
-        w,
-    );
+    let left = step_node(tables, nfirst, memory, k + 1, s, w);
     let mid = left.next;
-    let right = step_node(
-        ops, nums, nodes, nfirst, held, remaining, failed, culprits, mid, s, w,
-    );
+    let right = step_node(tables, nfirst, memory, mid, s, w);
     let failing = joined_now(any, left.now, right.now);
-    finish(
-        held, remaining, failed, culprits, k, mid, failing, left.now, right.now,
-    );
+    finish(memory, k, mid, failing, left.now, right.now);
     NodeOut {
         now: failing,
         next: right.next,
@@ -89,35 +67,27 @@ fn step_pair(
 // Node k of the monitor, with its parts.
 #[cycle(step_node_step_pair)]
 pub fn step_node(
-    ops: &[u8],
-    nums: &[u64],
-    nodes: &[u64],
+    tables: &Tables,
     nfirst: usize,
-    held: &mut [bool],
-    remaining: &mut [u64],
-    failed: &mut [bool],
-    culprits: &mut [i64],
+    memory: &mut Memory,
     k: usize,
     s: u64,
     w: u64,
 ) -> NodeOut
-    requires { Walkable ops.now nums.now nodes.now nfirst (entries held.old remaining.old failed.old culprits.old) k s }
-    ensures { NodeStepped ops.now nums.now nodes.now nfirst
-        (entries held.old remaining.old failed.old culprits.old) k s w
-        (entries held.new remaining.new failed.new culprits.new) result }
+    requires { Walkable tables.now.formulas.ops.now tables.now.formulas.nums.now tables.now.nodes.now nfirst (memory_of memory.old) k s }
+    ensures stepped { NodeStepped tables.now.formulas.ops.now tables.now.formulas.nums.now tables.now.nodes.now nfirst
+        (memory_of memory.old) k s w
+        (memory_of memory.new) result }
+    ensures same { SameLists memory.old memory.new }
 {
-    let Row::Node(node) = row_at(nodes, nfirst + k) else {
+    let Some(node) = row_at(tables.nodes, nfirst + k) else {
         return NodeOut {
             now: false,
             next: k + 1,
         };
     };
-    let Parts::Joined(any) = parts_of(node) else {
-        return step_leaf(
-            ops, nums, nodes, nfirst, held, remaining, failed, culprits, node, k, s, w,
-        );
+    let Some(any) = parts_of(node) else {
+        return step_leaf(tables, nfirst, memory, node, k, s, w);
     };
-    step_pair(
-        ops, nums, nodes, nfirst, held, remaining, failed, culprits, any, k, s, w,
-    )
+    step_pair(tables, nfirst, memory, any, k, s, w)
 }

@@ -2,51 +2,27 @@
 // columns and hands them on to the core, `compile_formula` or `split`, which callers with plain slices call themselves.
 #![tactic(auto)]
 
-ghost use Rattle.std.specs.Prelude.{◌≡◌, take};
+ghost use Rattle.std.specs.Prelude.{◌≡◌};
 ghost use Rattle.compiler.specs.Compiled.{Answers, compile_call};
-ghost use Rattle.node_table.specs.Columns.{Inside};
 ghost use Rattle.node_table.specs.Node.{ops_of, nums_of};
 ghost use Rattle.split.specs.Held.{outcome, splitting};
 
-use compiler::{Compiled, compile_formula};
-use node_table::{Columns, FormulaNode, unpack};
-use split::parts::{Liveness, split};
-
-// Compiles the rule of `count` nodes at `first` of a table in columns.
-fn compile_columns(c: Columns, first: usize, count: usize, out: &mut [u64]) -> Compiled
-    requires { Inside c }
-    ensures { Answers (compile_call (take c.count c.ops) (take c.count c.nums) first count out.old) result out.new }
-{
-    let n = c.count;
-    let ops = c.ops;
-    let nums = c.nums;
-    compile_formula(&ops[..n], &nums[..n], first, count, out)
-}
+use compiler::compile_formula;
+use node_table::{FormulaNode, unpack};
+use result::Refusal;
+use split::parts::{Parts, split};
 
 // Compiles the rule of `count` nodes at `first` into the rows of `out`.
-pub fn compile_table(table: &[FormulaNode], first: usize, count: usize, out: &mut [u64]) -> Compiled
-    ensures { Answers (compile_call (ops_of table.now) (nums_of table.now) first count out.old) result out.new }
-{
-    compile_columns(unpack(table, first, count), first, count, out)
-}
-
-// Splits the rule of `count` nodes at `first` of a table in columns.
-fn split_columns(
-    c: Columns,
+pub fn compile_table(
+    table: &[FormulaNode],
     first: usize,
     count: usize,
-    assumed: bool,
-    skeleton: &mut [u64],
-    owed: &mut [u64],
-) -> Liveness
-    requires { Inside c }
-    ensures { outcome result skeleton.new owed.new
-        ≡ splitting (take c.count c.ops) (take c.count c.nums) first count assumed skeleton.old owed.old }
+    out: &mut [u64],
+) -> Result<usize, Refusal>
+    ensures { Answers (compile_call (ops_of table.now) (nums_of table.now) first count out.old) result out.new }
 {
-    let n = c.count;
-    let ops = c.ops;
-    let nums = c.nums;
-    split(&ops[..n], &nums[..n], first, count, assumed, skeleton, owed)
+    let c = unpack(table, first, count);
+    compile_formula(&c.table(), first, count, out)
 }
 
 // The liveness split of the rule of `count` nodes at `first`.
@@ -57,16 +33,10 @@ pub fn split_table(
     assumed: bool,
     skeleton: &mut [u64],
     owed: &mut [u64],
-) -> Liveness
+) -> Result<Option<Parts>, Refusal>
     ensures { outcome result skeleton.new owed.new
         ≡ splitting (ops_of table.now) (nums_of table.now) first count assumed skeleton.old owed.old }
 {
-    split_columns(
-        unpack(table, first, count),
-        first,
-        count,
-        assumed,
-        skeleton,
-        owed,
-    )
+    let c = unpack(table, first, count);
+    split(&c.table(), first, count, assumed, skeleton, owed)
 }

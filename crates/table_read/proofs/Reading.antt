@@ -1,52 +1,42 @@
 -- Reading into two columns of 1,024 places answers as reading into any formula table with room does, and leaves the same nodes in front.
 use mathlib.Core.Bool.{Bool, true, false, ◌&&◌}
-use mathlib.Core.List.{List, [], ◌++◌}
+use mathlib.Core.List.{List, ◌++◌}
 use mathlib.Core.Path.{◌≡◌, refl, sym, ◌∙◌, ap, subst}
-use Prim.Native.Nat.{ℕ, ◌+◌, ◌≤◌, ◌<◌}
+use Prim.Native.Nat.{ℕ, ◌≤◌, ◌<◌}
 use native.Mathlib.Omega.{arith}
 use borrow.Author.Tests.{le-leb}
 use lib.ListN.{length, take, drop, length-append, replicate, length-replicate}
 use lib.Seq.{take_at}
 use Rattle.terms.specs.Choice.{pick}
 use Rattle.book.specs.Book.{Book, Outcome, refused, book_result, read}
-use Rattle.book.specs.declared.state.States.{States}
 use Rattle.reader.specs.Answer.{Reads}
 use Rattle.reader.specs.BookTables.{BookTables, SlotTables, over, written, roomy, roomy_slots, read_into, after, slots_after}
-use Rattle.reader.specs.declared.read.Answer.{Answer}
-use Rattle.reader.specs.declared.read.Answer.TheVariants.{Read, Refused}
-use Rattle.reader.proofs.Answers.{ReadBack, read_inv, refused_inv}
+use Rattle.std.specs.Prelude.{Result, Ok, Err}
+use Rattle.result.specs.Refusal.{number_of}
+use Rattle.book.specs.declared.check.Refused.{Refused}
+use Rattle.reader.specs.declared.read.Read.{Read}
+use Rattle.reader.proofs.Answers.{short, ReadBack, read_inv, refused_inv}
 use Rattle.reader.proofs.Runs.{roomy_is, tables_eq}
 use Rattle.reader.proofs.Sounds.{Sound}
 use Rattle.book_laws.proofs.RuleLaws.{accepted_done, into_accepted}
 use Rattle.node_table.specs.Columns.{front}
-use Rattle.table_read.specs.Filling.{RuleList, with_table, nodes_of, Fills}
+use Rattle.table_read.specs.Filling.{RuleList, with_table, FillsWith, FillsNone, Fills}
 use Rattle.table_read.specs.declared.Filling.{Filling}
 
-abbrev filled : Answer → ℕ → List ℕ → List ℕ → Filling
-filled a n os ns = record { answer = a; columns = record { count = n; ops = os; nums = ns } }
-
--- ---- the count of nodes in an answer
-pub count_read : (a : Answer) (r n h m : ℕ) (c : States) → a ≡ Read r n h m c → n ≡ nodes_of a
-count_read a r n h m c e = sym (ap nodes_of e)
-
-pub count_refused : (a : Answer) (n k : ℕ) → a ≡ Refused n k → 0 ≡ nodes_of a
-count_refused a n k e = sym (ap nodes_of e)
+abbrev filled : Read → List ℕ → List ℕ → Filling
+filled a os ns = record { read = a; columns = record { count = a.nodes; ops = os; nums = ns } }
 
 -- ---- a table of less than 1,024 nodes
-pub short_reads : (text : List ℕ) (t : BookTables) (u : SlotTables) → length t.ops < 1024 → Reads text t u (Refused 1 0) t u
+pub short_reads : (text : List ℕ) (t : BookTables) (u : SlotTables) → length t.ops < 1024 → Reads text t u (Err short) t u
 unfolding read_into after slots_after
 short_reads text t u h = go (roomy t) refl
   where
-    go : (m : Bool) → roomy t ≡ m → Reads text t u (Refused 1 0) t u
+    go : (m : Bool) → roomy t ≡ m → Reads text t u (Err short) t u
     go true e = absurd (omega (arith, (roomy_is t e).ops))
     go false e = record { answer = rw e refl; tables = rw e refl; slots = rw e refl }
 
-pub fills_short : (len : ℕ) (text : List ℕ) (l : RuleList) (u : SlotTables) (os ns : List ℕ) → len < 1024 → Fills len text l u (filled (Refused 1 0) 0 os ns) l u
-fills_short len text l u os ns h = record {
-  reads = λ ops nums eo en. short_reads text (with_table l ops nums) u (omega arith);
-  inside = record { ops = omega arith; nums = omega arith };
-  fits = omega arith;
-}
+pub fills_short : (len : ℕ) (text : List ℕ) (l : RuleList) (u : SlotTables) → len < 1024 → Fills len text l u (Err short) l u
+fills_short len text l u h = record { reads = λ ops nums eo en. short_reads text (with_table l ops nums) u (omega arith) }
 
 -- ---- a table with room: whether there is room rests on the rule list alone
 same_room : (l : RuleList) (ops nums o₀ n₀ : List ℕ) → 1024 ≤ length ops → 1024 ≤ length nums → 1024 ≤ length o₀ → 1024 ≤ length n₀ → roomy (with_table l ops nums) ≡ roomy (with_table l o₀ n₀)
@@ -74,9 +64,9 @@ module _ (len : ℕ) (text : List ℕ) (l l' : RuleList) (u u' : SlotTables) (o�
     same : read_into text (with_table l ops nums) u ≡ read_into text (with_table l o₀ n₀) u
     same = same_read text (with_table l ops nums) (with_table l o₀ n₀) u (same_room l ops nums o₀ n₀ (omega arith) (omega arith) (omega arith) (omega arith))
 
-  accepts : (r n h m : ℕ) (c : States) → Reads text (with_table l o₀ n₀) u (Read r n h m c) (with_table l' os ns) u' → Fills len text l u (filled (Read r n h m c) n os ns) l' u'
+  accepts : (a : Read) → Reads text (with_table l o₀ n₀) u (Ok a) (with_table l' os ns) u' → FillsWith len text l u (filled a os ns) l' u'
   unfolding after slots_after written
-  accepts r n h m c p = record {
+  accepts a p = record {
     reads = λ ops nums eo en. record {
       answer = p.answer ∙ ap book_result (sym (same ops nums eo en));
       tables = tables_eq
@@ -99,8 +89,11 @@ module _ (len : ℕ) (text : List ℕ) (l l' : RuleList) (u u' : SlotTables) (o�
     fits = omega (arith, n_is, sound.less);
   }
     where
-      inv : ReadBack text (with_table l o₀ n₀) u (with_table l' os ns) u' r n h m c
-      inv = read_inv text (with_table l o₀ n₀) u (with_table l' os ns) u' r n h m c p
+      n : ℕ
+      n = a.nodes
+
+      inv : ReadBack text (with_table l o₀ n₀) u (with_table l' os ns) u' a
+      inv = read_inv text (with_table l o₀ n₀) u (with_table l' os ns) u' a p
 
       b : Book
       b = inv.book
@@ -117,9 +110,9 @@ module _ (len : ℕ) (text : List ℕ) (l l' : RuleList) (u u' : SlotTables) (o�
       n_nums : n ≡ length b.nums
       n_nums = n_is ∙ sym sound.nums_long
 
-  refuses : (m k : ℕ) → Reads text (with_table l o₀ n₀) u (Refused m k) (with_table l' os ns) u' → Fills len text l u (filled (Refused m k) 0 os ns) l' u'
+  refuses : (e : Refused) → Reads text (with_table l o₀ n₀) u (Err e) (with_table l' os ns) u' → FillsNone len text l u e l' u'
   unfolding after slots_after
-  refuses m k p = record {
+  refuses e p = record {
     reads = λ ops nums eo en. record {
       answer = p.answer ∙ ap book_result (sym (same ops nums eo en));
       tables = tables_eq
@@ -133,23 +126,25 @@ module _ (len : ℕ) (text : List ℕ) (l l' : RuleList) (u u' : SlotTables) (o�
           refl
           refl
           ∙ ap (λ (o : Outcome). after o (with_table l ops nums)) (sym (same ops nums eo en ∙ is));
-      slots = (refused_inv text (with_table l o₀ n₀) u (with_table l' os ns) u' m k p).2 ∙ ap (λ (o : Outcome). slots_after o u) (sym (same ops nums eo en ∙ is));
+      slots = (refused_inv text (with_table l o₀ n₀) u (with_table l' os ns) u' e p).2 ∙ ap (λ (o : Outcome). slots_after o u) (sym (same ops nums eo en ∙ is));
     };
-    inside = record { ops = omega arith; nums = omega arith };
-    fits = omega arith;
   }
     where
-      is : read_into text (with_table l o₀ n₀) u ≡ refused m k
-      is = (refused_inv text (with_table l o₀ n₀) u (with_table l' os ns) u' m k p).0
+      is : read_into text (with_table l o₀ n₀) u ≡ refused (number_of e.refusal) e.line
+      is = (refused_inv text (with_table l o₀ n₀) u (with_table l' os ns) u' e p).0
 
       w : with_table l' os ns ≡ with_table l o₀ n₀
-      w = (refused_inv text (with_table l o₀ n₀) u (with_table l' os ns) u' m k p).1
-
-  reads_into : (a : Answer) → Reads text (with_table l o₀ n₀) u a (with_table l' os ns) u' → Fills len text l u (filled a (nodes_of a) os ns) l' u'
-  reads_into (Read r n h m c) p = accepts r n h m c p
-  reads_into (Refused m k) p = refuses m k p
+      w = (refused_inv text (with_table l o₀ n₀) u (with_table l' os ns) u' e p).1
 
 -- what was read into two fresh columns, for a table of `len` nodes
-pub fills_read : (len : ℕ) (text : List ℕ) (l l' : RuleList) (u u' : SlotTables) (os ns : List ℕ) (a : Answer) (n : ℕ) → 1024 ≤ len → Reads text (with_table l (replicate 1024 0) (replicate 1024 0)) u a (with_table l' os ns) u' → n ≡ nodes_of a → Fills len text l u (filled a n os ns) l' u'
-fills_read len text l l' u u' os ns a n h p e =
-    subst (λ (k : ℕ). Fills len text l u (filled a k os ns) l' u') (sym e) (reads_into len text l l' u u' (replicate 1024 0) (replicate 1024 0) os ns h (length-replicate {A = ℕ} 1024 0) (length-replicate {A = ℕ} 1024 0) a p)
+module _ (len : ℕ) (text : List ℕ) (l l' : RuleList) (u u' : SlotTables) (os ns : List ℕ) (r : Result Read Refused)
+    (p : Reads text (with_table l (replicate 1024 0) (replicate 1024 0)) u r (with_table l' os ns) u') (h : 1024 ≤ len) where
+  pub fills_read : (a : Read) → r ≡ Ok a → Fills len text l u (Ok (filled a os ns)) l' u'
+  fills_read a e =
+      accepts len text l l' u u' (replicate 1024 0) (replicate 1024 0) os ns h (length-replicate {A = ℕ} 1024 0) (length-replicate {A = ℕ} 1024 0) a
+      (subst (λ (x : Result Read Refused). Reads text (with_table l (replicate 1024 0) (replicate 1024 0)) u x (with_table l' os ns) u') e p)
+
+  pub fills_none : (x : Refused) → r ≡ Err x → Fills len text l u (Err x) l' u'
+  fills_none x e =
+      refuses len text l l' u u' (replicate 1024 0) (replicate 1024 0) os ns h (length-replicate {A = ℕ} 1024 0) (length-replicate {A = ℕ} 1024 0) x
+      (subst (λ (x : Result Read Refused). Reads text (with_table l (replicate 1024 0) (replicate 1024 0)) u x (with_table l' os ns) u') e p)

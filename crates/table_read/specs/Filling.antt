@@ -1,13 +1,12 @@
 -- What reading a book into columns gives for a formula table of so many nodes.
 --     RuleList    the lists of a rule list; with two lists for a formula table they are the reader's tables
 --     Fills       for any formula table of so many nodes: the answer is that of reading into it, and the columns hold the nodes that then
---                 stand in front
-use Rattle.std.specs.Prelude.{List, ◌≡◌, ℕ, ◌≤◌, length}
+--                 stand in front, or every node stays
+use Rattle.std.specs.Prelude.{List, ◌≡◌, ℕ, ◌≤◌, length, Result, Ok, Err}
 use Rattle.node_table.specs.Columns.{Inside, front}
 use Rattle.reader.specs.Answer.{Reads}
 use Rattle.reader.specs.BookTables.{BookTables, SlotTables}
-use Rattle.reader.specs.declared.read.Answer.{Answer}
-use Rattle.reader.specs.declared.read.Answer.TheVariants.{Read, Refused}
+use Rattle.book.specs.declared.check.Refused.{Refused}
 use Rattle.table_read.specs.declared.Filling.{Filling}
 
 pub record RuleList : Type 0 where
@@ -23,15 +22,19 @@ rules_in labels lens kinds firsts counts = record { labels = labels; lens = lens
 abbrev pub with_table : RuleList → List ℕ → List ℕ → BookTables
 with_table l ops nums = record { labels = l.labels; lens = l.lens; kinds = l.kinds; firsts = l.firsts; counts = l.counts; ops = ops; nums = nums }
 
--- the count of nodes in an answer
-abbrev pub nodes_of : Answer → ℕ
-nodes_of (Read rules nodes steps slots states) = nodes
-nodes_of (Refused number line) = 0
-
-pub record Fills (len : ℕ) (text : List ℕ) (l : RuleList) (u : SlotTables) (r : Filling) (l' : RuleList) (u' : SlotTables) : Type 0 where
+-- a book that was read
+pub record FillsWith (len : ℕ) (text : List ℕ) (l : RuleList) (u : SlotTables) (f : Filling) (l' : RuleList) (u' : SlotTables) : Type 0 where
   pub reads : (ops nums : List ℕ)
       → length ops ≡ len
       → length nums ≡ len
-      → Reads text (with_table l ops nums) u r.answer (with_table l' (front r.columns.count r.columns.ops ops) (front r.columns.count r.columns.nums nums)) u'
-  pub inside : Inside r.columns
-  pub fits : r.columns.count ≤ len
+      → Reads text (with_table l ops nums) u (Ok f.read) (with_table l' (front f.columns.count f.columns.ops ops) (front f.columns.count f.columns.nums nums)) u'
+  pub inside : Inside f.columns
+  pub fits : f.columns.count ≤ len
+
+-- a book that was refused: every node stays
+pub record FillsNone (len : ℕ) (text : List ℕ) (l : RuleList) (u : SlotTables) (e : Refused) (l' : RuleList) (u' : SlotTables) : Type 0 where
+  pub reads : (ops nums : List ℕ) → length ops ≡ len → length nums ≡ len → Reads text (with_table l ops nums) u (Err e) (with_table l' ops nums) u'
+
+abbrev pub Fills : ℕ → List ℕ → RuleList → SlotTables → Result Filling Refused → RuleList → SlotTables → Type 0
+Fills len text l u (Ok f) l' u' = FillsWith len text l u f l' u'
+Fills len text l u (Err e) l' u' = FillsNone len text l u e l' u'

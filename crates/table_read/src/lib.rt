@@ -2,31 +2,22 @@
 // columns, and the nodes are stored in the table one by one. Callers with plain slices call `read_book` themselves.
 #![tactic(auto)]
 
-ghost use Rattle.std.specs.Prelude.{◌≡◌};
 ghost use Rattle.node_table.specs.Node.{ops_of, nums_of};
 ghost use Rattle.reader.specs.Answer.{Reads};
-ghost use Rattle.table_read.specs.Filling.{Fills, nodes_of, rules_in};
+ghost use Rattle.table_read.specs.Filling.{Fills, rules_in};
 ghost use Rattle.reader.specs.BookTables.{columns, slot_columns};
 
+use book::check::Refused;
 use node_table::{Columns, FormulaNode, pack};
-use reader::read::{Answer, read_book};
+use reader::read::{Read, read_book};
+use result::Refusal;
 use terms::limit::BOOK_NODES;
 
-// The answer, and the book's nodes in columns.
+// What was read, and the book's nodes in columns.
 #[derive(Drop)]
 pub struct Filling {
-    pub answer: Answer,
+    pub read: Read,
     pub columns: Columns,
-}
-
-// How many nodes an answer says were read.
-fn node_count(answer: Answer) -> usize
-    ensures { result ≡ nodes_of answer }
-{
-    match answer {
-        Answer::Read { nodes, .. } => nodes,
-        Answer::Refused { .. } => 0,
-    }
 }
 
 // Reads a book into a rule list, a slot list and columns, for a formula table of `len` nodes.
@@ -41,33 +32,30 @@ fn read_columns(
     names: &mut [u8],
     sizes: &mut [usize],
     widths: &mut [u64],
-) -> Filling
+) -> Result<Filling, Refused>
     ensures { Fills len text.now
         (rules_in labels.old lens.old kinds.old firsts.old counts.old)
         (slot_columns names.old sizes.old widths.old) result
         (rules_in labels.new lens.new kinds.new firsts.new counts.new)
         (slot_columns names.new sizes.new widths.new) }
 {
+    if len < BOOK_NODES {
+        return Err(Refused {
+            refusal: Refusal::Short,
+            line: 0,
+        });
+    }
     let mut ops = [0u8; BOOK_NODES];
     let mut nums = [0u64; BOOK_NODES];
-    if len < BOOK_NODES {
-        let columns = Columns {
-            count: 0,
-            ops,
-            nums,
-        };
-        let answer = Answer::Refused { number: 1, line: 0 };
-        return Filling { answer, columns };
-    }
-    let answer = read_book(
+    let read = read_book(
         text, labels, lens, kinds, firsts, counts, &mut ops, &mut nums, names, sizes, widths,
-    );
+    )?;
     let columns = Columns {
-        count: node_count(answer),
+        count: read.nodes,
         ops,
         nums,
     };
-    Filling { answer, columns }
+    Ok(Filling { read, columns })
 }
 
 // Reads a book: its rules into the rule list, its nodes into the table's front, its slots into the slot list.
@@ -82,14 +70,14 @@ pub fn read_table(
     names: &mut [u8],
     sizes: &mut [usize],
     widths: &mut [u64],
-) -> Answer
+) -> Result<Read, Refused>
     ensures { Reads text.now
         (columns labels.old lens.old kinds.old firsts.old counts.old
         (ops_of table.old) (nums_of table.old)) (slot_columns names.old sizes.old widths.old) result
         (columns labels.new lens.new kinds.new firsts.new counts.new (ops_of table.new)
         (nums_of table.new)) (slot_columns names.new sizes.new widths.new) }
 {
-    let f = read_columns(
+    let filling = read_columns(
         table.len(),
         text,
         labels,
@@ -100,7 +88,7 @@ pub fn read_table(
         names,
         sizes,
         widths,
-    );
-    pack(table, f.columns);
-    f.answer
+    )?;
+    pack(table, filling.columns);
+    Ok(filling.read)
 }

@@ -9,68 +9,38 @@ ghost use Rattle.table_step.specs.Over.{tables_over};
 use in_place::ReferenceMonitor;
 use in_place::fresh::fresh;
 use in_place::step::step;
+use monitor::table::{Part, Tables};
 use node_table::{FormulaNode, unpack};
-use stepping::call::Verdict;
-use stepping::fresh::Outcome;
+use result::Refusal;
 
 // Steps a lent monitor once, at step s with truths w, over the tables that hold its rule.
 pub fn step_table(
     m: &mut ReferenceMonitor,
     table: &[FormulaNode],
-    first: usize,
-    count: usize,
     nodes: &[u64],
-    nfirst: usize,
-    ncount: usize,
+    part: Part,
     s: u64,
     w: u64,
-) -> Verdict
-    ensures { (result ≡ (step_in (tables_over table.now first count nodes.now nfirst ncount) m.old s w).verdict)
-        × (m.new ≡ (step_in (tables_over table.now first count nodes.now nfirst ncount) m.old s w).monitor) }
+) -> Result<bool, Refusal>
+    ensures { (result ≡ (step_in (tables_over table.now part.first part.count nodes.now part.nfirst part.ncount) m.old s w).verdict)
+        × (m.new ≡ (step_in (tables_over table.now part.first part.count nodes.now part.nfirst part.ncount) m.old s w).monitor) }
 {
-    let c = unpack(table, first, count);
-    let n = c.count;
-    let ops = c.ops;
-    let nums = c.nums;
-    step(
-        m,
-        &ops[..n],
-        &nums[..n],
-        first,
-        count,
-        nodes,
-        nfirst,
-        ncount,
-        s,
-        w,
-    )
+    let c = unpack(table, part.first, part.count);
+    let tables = Tables::new(c.ops(), c.nums(), nodes);
+    step(m, &tables, part, s, w)
 }
 
 // Makes a lent monitor the fresh one of the compiled rule that the tables hold.
 pub fn fresh_table(
     m: &mut ReferenceMonitor,
     table: &[FormulaNode],
-    first: usize,
-    count: usize,
     nodes: &[u64],
-    nfirst: usize,
-    ncount: usize,
-) -> Outcome
-    ensures { (result ≡ (fresh_in (tables_over table.now first count nodes.now nfirst ncount) m.old).outcome)
-        × (m.new ≡ (fresh_in (tables_over table.now first count nodes.now nfirst ncount) m.old).monitor) }
+    part: Part,
+) -> Result<usize, Refusal>
+    ensures { (result ≡ (fresh_in (tables_over table.now part.first part.count nodes.now part.nfirst part.ncount) m.old).outcome)
+        × (m.new ≡ (fresh_in (tables_over table.now part.first part.count nodes.now part.nfirst part.ncount) m.old).monitor) }
 {
-    let c = unpack(table, first, count);
-    let n = c.count;
-    let ops = c.ops;
-    let nums = c.nums;
-    fresh(
-        m,
-        &ops[..n],
-        &nums[..n],
-        first,
-        count,
-        nodes,
-        nfirst,
-        ncount,
-    )
+    let c = unpack(table, part.first, part.count);
+    let tables = Tables::new(c.ops(), c.nums(), nodes);
+    fresh(m, &tables, part)
 }

@@ -22,10 +22,8 @@ pub fn put_bytes(out: &mut [u8], at: usize, s: &[u8]) -> usize
     ensures { Wrote (tape out.old at) s.now (tape out.new result) }
 {
     let mut place = at;
-    let mut i: usize = 0;
-    while i < s.len() {
-        place = put_byte(out, place, s[i]);
-        i += 1;
+    for b in s {
+        place = put_byte(out, place, *b);
     }
     place
 }
@@ -36,10 +34,8 @@ pub fn put_word(out: &mut [u8], at: usize, k: u8) -> usize
 {
     let n = length(k);
     let mut place = at;
-    let mut i: usize = 0;
-    while i < n {
+    for i in 0..n {
         place = put_byte(out, place, letter(k, i));
-        i += 1;
     }
     place
 }

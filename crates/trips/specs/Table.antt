@@ -3,6 +3,8 @@
 --     trips     the table; a trip more is a line more of `computed`
 --     kept      the layers' own definitions give what the row expects
 use Rattle.std.specs.Prelude.{Bool, true, false, ◌&&◌, List, [], ◌∷◌, ◌++◌, map, ℕ, eqb}
+use Rattle.result.specs.Refusal.{number_of}
+use Rattle.result.specs.declared.Refusal.{Refusal}
 use Rattle.formula.specs.Tree.{leaf, one, two}
 use Rattle.formula.specs.Formula.{Atom, var, input, output, Formula, always, eventually, always_for, within, and, or}
 use Rattle.formula.specs.Text.{Sign, atom, sign}
@@ -56,9 +58,9 @@ trips = largest ∷ computed
 
 -- ---- the test of a row
 -- the first refusal of a list is n
-abbrev pub first_is : List ℕ → ℕ → Bool
+abbrev pub first_is : List Refusal → ℕ → Bool
 first_is [] n = false
-first_is (m ∷ ms) n = eqb m n
+first_is (r ∷ rs) n = eqb (number_of r) n
 
 abbrev pub same_atom : Atom → Atom → Bool
 same_atom (var m) (var n) = eqb m n

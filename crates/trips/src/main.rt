@@ -2,446 +2,250 @@
 // split, and what the calls answer is printed, one line a trip.
 #![tactic(auto)]
 
-use compiler::{Compiled, compile_formula};
+use compiler::compile_formula;
 use input::{TEXT_ROOM, read_full};
-use layout::rule::{NodeSlot, RuleBits, layout_for, node_slot};
-use reader::read::{Answer, read_book};
-use reader::steps::{StepRead, next_step};
-use split::parts::{Liveness, split};
+use layout::rule::{layout_for, node_slot};
+use lent::Frame;
+use monitor::table::{Part, Tables};
+use node_step::state::Memory;
+use opened::{Book, open_book};
+use reader::steps::next_step;
+use split::parts::split;
 use std::rt::Files;
 use std::{fs, io};
-use stepping::call::{Verdict, step};
-use stepping::fresh::{Outcome, fresh};
-use terms::limit::{
-    BOOK_NODES, BOOK_RULES, BOOK_SLOTS, LABELS_ROOM, NAMES_ROOM, NODE_CELLS, OWED_ROOM, RULE_NODES,
-    SKELETON_ROOM,
-};
+use stepping::call::step;
+use stepping::fresh::fresh;
+use terms::entry::{NOT, OWED, SAFETY};
+use terms::limit::{BOOK_NODES, NODE_CELLS, OWED_ROOM, RULE_NODES, SKELETON_ROOM};
+use terms::op;
+use terms::op::{IN, VAR};
 
-fn put(rt: &impl Print, s: &[u8]) -> io::Result<()> {
-    rt.write_all(s)
+// A compiled rule: the tables that hold it, and where it lies in them.
+#[derive(Clone, Copy)]
+struct Rule<'a> {
+    tables: Tables<'a>,
+    part: Part,
 }
 
-// A number behind a word.
-fn show(rt: &impl Print, word: &[u8], n: u64) -> io::Result<()> {
-    put(rt, word)?;
-    rt.print(n)
-}
-
-fn show_culprit(rt: &impl Print, c: i64) -> io::Result<()> {
-    if c < 0 {
-        if c < -1 {
-            return put(rt, b" culprit below -1");
-        }
-        return put(rt, b" culprit -1");
-    }
-    show(rt, b" culprit ", c as u64)
-}
-
-// The culprit of the root.
-fn root_culprit(culprits: &[i64]) -> i64 {
-    if culprits.len() == 0 {
-        return -1;
-    }
-    culprits[0]
-}
-
-// One call's answer; whether there is a report up to it.
-fn show_verdict(
-    rt: &impl Print,
-    verdict: Verdict,
-    s: u64,
-    culprit: i64,
-    reported: bool,
-) -> io::Result<bool> {
-    match verdict {
-        Verdict::Refused(n) => {
-            show(rt, b", call refused ", n)?;
-            return Ok(reported);
-        }
-        Verdict::Accepted(now) => {
-            if now {
-                show(rt, b", report ", s)?;
-                show_culprit(rt, culprit)?;
-                return Ok(true);
-            }
-            return Ok(reported);
+impl Rule<'_> {
+    // The bits of the rule.
+    fn show_bits(&self, rt: &impl Print) -> io::Result<()> {
+        let bits = layout_for(&self.tables, self.part);
+        match bits {
+            Ok(n) => print!(rt; ", bits {n}"),
+            Err(refusal) => print!(rt; ", bits {refusal}"),
         }
     }
-}
 
-// The steps of the book, at most 100, each handed to the monitor; whether one was reported.
-fn step_all(
-    rt: &impl Print,
-    text: &[u8],
-    steps_at: usize,
-    ops: &[u8],
-    nums: &[u64],
-    first: usize,
-    count: usize,
-    nodes: &[u64],
-    ncount: usize,
-    size: usize,
-    forms: &[u64],
-    bounds: &[u64],
-    held: &mut [bool],
-    remaining: &mut [u64],
-    failed: &mut [bool],
-    culprits: &mut [i64],
-) -> io::Result<bool> {
-    let mut reported = false;
-    let mut at = steps_at;
-    let mut left: usize = 100;
-    while 0 < left {
-        match next_step(text, at) {
-            StepRead::End => return Ok(reported),
-            StepRead::Step {
-                step: s,
-                truths,
-                next,
-            } => {
-                let verdict = step(
-                    ops, nums, first, count, nodes, 0, ncount, size, forms, bounds, held,
-                    remaining, failed, culprits, s, truths,
-                );
-                reported = show_verdict(rt, verdict, s, root_culprit(culprits), reported)?;
-                at = next;
-                left -= 1;
+    // The bits of each node, where they begin and how many are for what: pending, remaining, the antecedent before.
+    fn show_slots(&self, rt: &impl Print) -> io::Result<()> {
+        for j in 0..self.part.ncount {
+            let slot = node_slot(&self.tables, self.part, j);
+            match slot {
+                Ok(s) => print!(rt;
+                    ", node {j} at {} bits {}+{}+{}",
+                    s.offset, s.piece.pending, s.piece.remaining, s.piece.antecedent
+                )?,
+                Err(refusal) => print!(rt; ", node {j} {refusal}")?,
             }
         }
+        Ok(())
     }
-    Ok(reported)
-}
 
-// The reports of a compiled rule, from its fresh monitor.
-fn show_reports(
-    rt: &impl Print,
-    text: &[u8],
-    steps_at: usize,
-    ops: &[u8],
-    nums: &[u64],
-    first: usize,
-    count: usize,
-    nodes: &[u64],
-    ncount: usize,
-) -> io::Result<()> {
-    let mut forms = [0u64; RULE_NODES];
-    let mut bounds = [0u64; RULE_NODES];
-    let mut held = [false; RULE_NODES];
-    let mut remaining = [0u64; RULE_NODES];
-    let mut failed = [false; RULE_NODES];
-    let mut culprits = [0i64; RULE_NODES];
-    let made = fresh(
-        ops,
-        nums,
-        first,
-        count,
-        nodes,
-        0,
-        ncount,
-        &mut forms,
-        &mut bounds,
-        &mut held,
-        &mut remaining,
-        &mut failed,
-        &mut culprits,
-    );
-    match made {
-        Outcome::Refused(n) => show(rt, b", monitor refused ", n)?,
-        Outcome::Made(size) => {
-            if !step_all(
-                rt,
-                text,
-                steps_at,
-                ops,
-                nums,
-                first,
-                count,
-                nodes,
-                ncount,
-                size,
-                &forms,
-                &bounds,
-                &mut held,
-                &mut remaining,
-                &mut failed,
-                &mut culprits,
-            )? {
-                put(rt, b", no report")?;
+    // The reports of the rule over the step lines from a place of the text on, at most 100, from its fresh monitor.
+    fn show_reports(&self, rt: &impl Print, text: &[u8], steps_at: usize) -> io::Result<()> {
+        let mut forms = [0u64; RULE_NODES];
+        let mut bounds = [0u64; RULE_NODES];
+        let mut held = [false; RULE_NODES];
+        let mut remaining = [0u64; RULE_NODES];
+        let mut failed = [false; RULE_NODES];
+        let mut culprits = [0i64; RULE_NODES];
+        let mut memory = Memory {
+            held: &mut held,
+            remaining: &mut remaining,
+            failed: &mut failed,
+            culprits: &mut culprits,
+        };
+        let made = fresh(
+            &self.tables,
+            self.part,
+            &mut forms,
+            &mut bounds,
+            &mut memory,
+        );
+        let size = match made {
+            Ok(size) => size,
+            Err(refusal) => return print!(rt; ", monitor {refusal}"),
+        };
+        let frame = Frame {
+            size,
+            forms: &forms,
+            bounds: &bounds,
+        };
+        let mut reported = false;
+        let mut at = steps_at;
+        for _ in 0..100 {
+            let Some(line) = next_step(text, at) else {
+                break;
+            };
+            let mut memory = Memory {
+                held: &mut held,
+                remaining: &mut remaining,
+                failed: &mut failed,
+                culprits: &mut culprits,
+            };
+            let verdict = step(
+                &self.tables,
+                self.part,
+                &frame,
+                &mut memory,
+                line.step,
+                line.truths,
+            );
+            match verdict {
+                Ok(true) => {
+                    print!(rt; ", report {} culprit {}", line.step, culprits[0])?;
+                    reported = true;
+                }
+                Ok(false) => {}
+                Err(refusal) => print!(rt; ", call {refusal}")?,
             }
+            at = line.next;
         }
-    }
-    Ok(())
-}
-
-// The bits of one node, where they begin and how many are for what: pending, remaining, the antecedent before.
-fn show_slot(
-    rt: &impl Print,
-    ops: &[u8],
-    nums: &[u64],
-    first: usize,
-    count: usize,
-    nodes: &[u64],
-    ncount: usize,
-    j: usize,
-) -> io::Result<()> {
-    show(rt, b", node ", j as u64)?;
-    match node_slot(ops, nums, first, count, nodes, 0, ncount, j) {
-        NodeSlot::Refused(n) => show(rt, b" refused ", n)?,
-        NodeSlot::At(s) => {
-            let p = s.piece;
-            show(rt, b" at ", s.offset)?;
-            show(rt, b" bits ", p.pending)?;
-            show(rt, b"+", p.remaining)?;
-            show(rt, b"+", p.antecedent)?;
+        if !reported {
+            print!(rt; ", no report")?;
         }
+        Ok(())
     }
-    Ok(())
-}
-
-// All nodes of a compiled rule.
-fn show_slots(
-    rt: &impl Print,
-    ops: &[u8],
-    nums: &[u64],
-    first: usize,
-    count: usize,
-    nodes: &[u64],
-    ncount: usize,
-) -> io::Result<()> {
-    let mut j: usize = 0;
-    while j < ncount {
-        show_slot(rt, ops, nums, first, count, nodes, ncount, j)?;
-        j += 1;
-    }
-    Ok(())
-}
-
-// The bits of a compiled rule.
-fn show_bits(
-    rt: &impl Print,
-    ops: &[u8],
-    nums: &[u64],
-    first: usize,
-    count: usize,
-    nodes: &[u64],
-    ncount: usize,
-) -> io::Result<()> {
-    match layout_for(ops, nums, first, count, nodes, 0, ncount) {
-        RuleBits::Bits(n) => show(rt, b", bits ", n)?,
-        RuleBits::Refused(n) => show(rt, b", bits refused ", n)?,
-    }
-    Ok(())
 }
 
 // The atom at a place: its letter and its signal.
-fn show_atom(rt: &impl Print, ops: &[u8], nums: &[u64], p: u64) -> io::Result<()> {
+fn show_atom(rt: &impl Print, book: &Book, p: u64) -> io::Result<()> {
     let i = p as usize;
-    if ops.len() <= i {
+    if BOOK_NODES <= i {
         return Ok(());
     }
-    if nums.len() <= i {
-        return Ok(());
+    let n = book.nums[i];
+    match book.ops[i] {
+        VAR => print!(rt; "sv{n}"),
+        IN => print!(rt; "si{n}"),
+        _ => print!(rt; "so{n}"),
     }
-    if ops[i] == 0 {
-        return show(rt, b"sv", nums[i]);
-    }
-    if ops[i] == 1 {
-        return show(rt, b"si", nums[i]);
-    }
-    show(rt, b"so", nums[i])
 }
+
+const AND: u64 = op::AND as u64;
+
+const OR: u64 = op::OR as u64;
 
 // One entry of a skeleton: a safety leaf with its place, an obligation with its number, or an operator.
-fn show_entry(rt: &impl Print, ops: &[u8], nums: &[u64], kind: u64, n: u64) -> io::Result<()> {
-    if kind == 0 {
-        return show_atom(rt, ops, nums, n);
+fn show_entry(rt: &impl Print, book: &Book, kind: u64, n: u64) -> io::Result<()> {
+    match kind {
+        SAFETY => show_atom(rt, book, n),
+        OWED => print!(rt; "#{n}"),
+        NOT => print!(rt; "!"),
+        AND => print!(rt; "&"),
+        OR => print!(rt; "|"),
+        _ => print!(rt; ">"),
     }
-    if kind == 1 {
-        return show(rt, b"#", n);
-    }
-    if kind == 3 {
-        return put(rt, b"!");
-    }
-    if kind == 9 {
-        return put(rt, b"&");
-    }
-    if kind == 10 {
-        return put(rt, b"|");
-    }
-    put(rt, b">")
-}
-
-fn show_entry_at(
-    rt: &impl Print,
-    ops: &[u8],
-    nums: &[u64],
-    skeleton: &[u64],
-    k: usize,
-) -> io::Result<()> {
-    if RULE_NODES <= k {
-        return Ok(());
-    }
-    let i = 2 * k;
-    if skeleton.len() <= i + 1 {
-        return Ok(());
-    }
-    show_entry(rt, ops, nums, skeleton[i], skeleton[i + 1])
-}
-
-fn show_skeleton(
-    rt: &impl Print,
-    ops: &[u8],
-    nums: &[u64],
-    skeleton: &[u64],
-    n: usize,
-) -> io::Result<()> {
-    let mut k: usize = 0;
-    while k < n {
-        show_entry_at(rt, ops, nums, skeleton, k)?;
-        k += 1;
-    }
-    Ok(())
 }
 
 // The split of a property.
-fn show_live(
-    rt: &impl Print,
-    ops: &[u8],
-    nums: &[u64],
-    first: usize,
-    count: usize,
-) -> io::Result<()> {
+fn show_live(rt: &impl Print, book: &Book) -> io::Result<()> {
     let mut skeleton = [0u64; SKELETON_ROOM];
     let mut owed = [0u64; OWED_ROOM];
-    let answer = split(ops, nums, first, count, false, &mut skeleton, &mut owed);
-    match answer {
-        Liveness::None => put(rt, b", live none")?,
-        Liveness::Refused(n) => show(rt, b", live ", n)?,
-        Liveness::Parts {
-            skeleton: n,
-            owed: o,
-        } => {
-            put(rt, b", live 0 skeleton ")?;
-            show_skeleton(rt, ops, nums, &skeleton, n)?;
-            show(rt, b" obligations ", o as u64)?;
-        }
-    }
-    Ok(())
-}
-
-// The rule of `count` nodes at `first`, over the steps of its book.
-fn run_rule(
-    rt: &impl Print,
-    text: &[u8],
-    steps_at: usize,
-    ops: &[u8],
-    nums: &[u64],
-    first: usize,
-    count: usize,
-) -> io::Result<()> {
-    let mut nodes = [0u64; NODE_CELLS];
-    match compile_formula(ops, nums, first, count, &mut nodes) {
-        Compiled::Refused(n) => show(rt, b": compile ", n)?,
-        Compiled::Nodes(n) => {
-            put(rt, b": compile 0")?;
-            show_bits(rt, ops, nums, first, count, &nodes, n)?;
-            show_slots(rt, ops, nums, first, count, &nodes, n)?;
-            show_reports(rt, text, steps_at, ops, nums, first, count, &nodes, n)?;
-        }
-    }
-    show_live(rt, ops, nums, first, count)
-}
-
-// A book of one rule.
-fn run_book(rt: &impl Print, text: &[u8]) -> io::Result<()> {
-    let mut labels = [0u8; LABELS_ROOM];
-    let mut lens = [0usize; BOOK_RULES];
-    let mut kinds = [0u8; BOOK_RULES];
-    let mut firsts = [0usize; BOOK_RULES];
-    let mut counts = [0usize; BOOK_RULES];
-    let mut ops = [0u8; BOOK_NODES];
-    let mut nums = [0u64; BOOK_NODES];
-    let mut names = [0u8; NAMES_ROOM];
-    let mut sizes = [0usize; BOOK_SLOTS];
-    let mut widths = [0u64; BOOK_SLOTS];
-    let answer = read_book(
-        text,
-        &mut labels,
-        &mut lens,
-        &mut kinds,
-        &mut firsts,
-        &mut counts,
-        &mut ops,
-        &mut nums,
-        &mut names,
-        &mut sizes,
-        &mut widths,
+    let answer = split(
+        &book.formulas(),
+        book.firsts[0],
+        book.counts[0],
+        false,
+        &mut skeleton,
+        &mut owed,
     );
     match answer {
-        Answer::Refused { number, line } => {
-            show(rt, b": book refused ", number as u64)?;
-            show(rt, b" line ", line as u64)?;
+        Ok(None) => print!(rt; ", live none"),
+        Ok(Some(parts)) => {
+            print!(rt; ", live 0 skeleton ")?;
+            for entry in skeleton.chunks_exact(2).take(parts.skeleton) {
+                show_entry(rt, book, entry[0], entry[1])?;
+            }
+            print!(rt; " obligations {}", parts.owed)
         }
-        Answer::Read {
-            rules: _,
-            nodes: _,
-            steps_at,
-            slots: _,
-            states: _,
-        } => run_rule(rt, text, steps_at, &ops, &nums, firsts[0], counts[0])?,
+        Err(refusal) => print!(rt; ", live {}", u64::from(refusal)),
     }
-    Ok(())
+}
+
+// The first rule of a book, over its steps.
+fn run_rule(rt: &impl Print, text: &[u8], book: &Book) -> io::Result<()> {
+    let first = book.firsts[0];
+    let count = book.counts[0];
+    let mut nodes = [0u64; NODE_CELLS];
+    match compile_formula(&book.formulas(), first, count, &mut nodes) {
+        Err(refusal) => print!(rt; ": compile {}", u64::from(refusal))?,
+        Ok(ncount) => {
+            let rule = Rule {
+                tables: Tables::new(&book.ops, &book.nums, &nodes),
+                part: Part {
+                    first,
+                    count,
+                    nfirst: 0,
+                    ncount,
+                },
+            };
+            print!(rt; ": compile 0")?;
+            rule.show_bits(rt)?;
+            rule.show_slots(rt)?;
+            rule.show_reports(rt, text, book.read.steps_at)?;
+        }
+    }
+    show_live(rt, book)
 }
 
 // The trip whose book has this name in data/.
 fn run(rt: &(impl Files + Print), name: &str) -> io::Result<()> {
-    put(rt, name.as_bytes())?;
+    print!(rt; "{name}")?;
     match fs::open(rt, name) {
-        Err(_) => put(rt, b": no book\n"),
+        Err(_) => println!(rt; ": no book"),
         Ok(mut file) => {
             let mut text = [0u8; TEXT_ROOM];
             let got = read_full(&mut file, &mut text)?;
-            run_book(rt, &text[..got])?;
-            put(rt, b"\n")
+            let text = &text[..got];
+            match open_book(text) {
+                Err(refused) => print!(rt; ": book {} line {}", refused.refusal, refused.line)?,
+                Ok(book) => run_rule(rt, text, &book)?,
+            }
+            println!(rt; "")
         }
     }
 }
 
-// Those under `always`.
-fn run_always(rt: &(impl Files + Print)) -> io::Result<()> {
-    run(rt, "within_0")?;
-    run(rt, "within_1")?;
-    run(rt, "whole_case")?;
-    run(rt, "whole_case_answered")?;
-    run(rt, "second_trigger")?;
-    run(rt, "one_of_two")?;
-    run(rt, "next_step")
-}
-
-// Those that stand alone.
-fn run_alone(rt: &(impl Files + Print)) -> io::Result<()> {
-    run(rt, "either_always")?;
-    run(rt, "bare_signal")?;
-    run(rt, "bare_within")?;
-    run(rt, "bare_within_answered")?;
-    run(rt, "always_for_1")?;
-    run(rt, "always_for_0")?;
-    run(rt, "always_for_0_nested")?;
-    run(rt, "eventually_or")?;
-    run(rt, "eventually_and")
-}
-
-// The bounds and their bits.
-fn run_bounds(rt: &(impl Files + Print)) -> io::Result<()> {
-    run(rt, "bound_0")?;
-    run(rt, "bound_1")?;
-    run(rt, "bound_3")?;
-    run(rt, "bound_4")?;
-    run(rt, "bound_largest")
-}
+// Those under `always`, those that stand alone, the bounds and their bits.
+const TRIPS: [&str; 21] = [
+    "within_0",
+    "within_1",
+    "whole_case",
+    "whole_case_answered",
+    "second_trigger",
+    "one_of_two",
+    "next_step",
+    "either_always",
+    "bare_signal",
+    "bare_within",
+    "bare_within_answered",
+    "always_for_1",
+    "always_for_0",
+    "always_for_0_nested",
+    "eventually_or",
+    "eventually_and",
+    "bound_0",
+    "bound_1",
+    "bound_3",
+    "bound_4",
+    "bound_largest",
+];
 
 fn main(rt: HostRuntime) -> io::Result<()> {
-    run_always(&rt)?;
-    run_alone(&rt)?;
-    run_bounds(&rt)
+    for name in TRIPS {
+        run(&rt, name)?;
+    }
+    Ok(())
 }

@@ -4,8 +4,7 @@ use Rattle.book.specs.Book.{StepLine}
 use Rattle.monitor.specs.Mon.{Mon}
 use Rattle.meaning.specs.Alarm.{Record, Alarm, NoneBelow}
 use Rattle.meaning.specs.Culprit as meaning
-use Rattle.watch.specs.declared.rule.Watched.{Watched}
-use Rattle.watch.specs.declared.rule.Watched.TheVariants.{Quiet, Report}
+use Rattle.watch.specs.Watch.{Watched, no_report, reported}
 
 -- numbered s, s + 1 and on
 unfoldable pub NumberedFrom : ℕ → List StepLine → Type 0
@@ -21,6 +20,6 @@ line_record ls s = get_or (truths_of ls) s 0
 
 pub record SaysReport (m : Mon) (ls : List StepLine) (w : Watched) : Type 0 where
   -- a report with its culprit is printed exactly where it is the record's
-  pub reports : (s : ℕ) (c : ℤ) → (w ≡ Report s c) ↔ ((s < length ls) × meaning.Report m (line_record ls) s c)
+  pub reports : (s : ℕ) (c : ℤ) → (w ≡ reported s c) ↔ ((s < length ls) × meaning.Report m (line_record ls) s c)
   -- and none exactly where the alarm holds at no step line
-  pub quiet : (w ≡ Quiet) ↔ NoneBelow (Alarm m (line_record ls)) (length ls)
+  pub quiet : (w ≡ no_report) ↔ NoneBelow (Alarm m (line_record ls)) (length ls)

@@ -11,15 +11,15 @@ use Rattle.words.specs.Coded.{Coded, sized}
 use Rattle.words.specs.Same.{eqbs}
 use Rattle.words.specs.Word.{Entry, vocabulary, lookup, word_of}
 use Rattle.words.specs.declared.word.Word.{Word}
-use Rattle.words.specs.declared.word.Word.TheVariants.{Unknown}
+use Rattle.std.specs.Prelude.{Option, Some, None}
 use Rattle.words.proofs.Codes.{other_length, cells, zeros, by_number}
 
 -- ---- the first entry of a list is the word, or is passed over; past the last there is none
-hit : (s : List ℕ) (w : Word) (es : List Entry) (f : List ℕ) → eqbs f s ≡ true → w ≡ lookup (record { spelling = s; word = w } ∷ es) f
+hit : (s : List ℕ) (w : Word) (es : List Entry) (f : List ℕ) → eqbs f s ≡ true → Some w ≡ lookup (record { spelling = s; word = w } ∷ es) f
 unfolding lookup
 hit s w es f e = rw e refl
 
-miss : (s : List ℕ) (w : Word) (es : List Entry) (f : List ℕ) (r : Word) → eqbs f s ≡ false → r ≡ lookup es f
+miss : (s : List ℕ) (w : Word) (es : List Entry) (f : List ℕ) (r : Option Word) → eqbs f s ≡ false → r ≡ lookup es f
     → r ≡ lookup (record { spelling = s; word = w } ∷ es) f
 unfolding lookup
 miss s w es f r e h = rw e h
@@ -27,21 +27,21 @@ miss s w es f r e h = rw e h
 -- n letters as one number, with m zeros
 module _ (n m : ℕ) (s : List ℕ) (w : Word) (es : List Entry) (f : List ℕ) (p q : ℕ) (h : length f ≡ n) (k : length s ≡ n)
     (c : Coded (cells f 0 n ++ zeros m) p) (d : Coded (s ++ zeros m) q) where
-  pub found : p ≡ q → w ≡ lookup (record { spelling = s; word = w } ∷ es) f
+  pub found : p ≡ q → Some w ≡ lookup (record { spelling = s; word = w } ∷ es) f
   found e = hit s w es f (sym (by_number n m f s p q h k c d) ∙ eq-eqb p q e)
 
-  pub passed : (r : Word) → (p ≡ q → ⊥) → r ≡ lookup es f → r ≡ lookup (record { spelling = s; word = w } ∷ es) f
+  pub passed : (r : Option Word) → (p ≡ q → ⊥) → r ≡ lookup es f → r ≡ lookup (record { spelling = s; word = w } ∷ es) f
   passed r e = miss s w es f r (sym (by_number n m f s p q h k c d) ∙ ne_eqb p q e)
 
 -- a test that says whether they are the same
 module _ (s : List ℕ) (w : Word) (es : List Entry) (f : List ℕ) (t : Bool) (p : t ≡ eqbs f s) where
-  pub found_so : t ≡ true → w ≡ lookup (record { spelling = s; word = w } ∷ es) f
+  pub found_so : t ≡ true → Some w ≡ lookup (record { spelling = s; word = w } ∷ es) f
   found_so e = hit s w es f (sym p ∙ e)
 
-  pub passed_so : (r : Word) → t ≡ false → r ≡ lookup es f → r ≡ lookup (record { spelling = s; word = w } ∷ es) f
+  pub passed_so : (r : Option Word) → t ≡ false → r ≡ lookup es f → r ≡ lookup (record { spelling = s; word = w } ∷ es) f
   passed_so r e = miss s w es f r (sym p ∙ e)
 
-pub none_left : (f : List ℕ) → Unknown ≡ lookup [] f
+pub none_left : (f : List ℕ) → None ≡ lookup [] f
 unfolding lookup
 none_left f = refl
 
@@ -49,14 +49,14 @@ none_left f = refl
 one_sized : (e : Entry) (es : List Entry) (f : List ℕ) → lookup es f ≡ lookup (sized (length f) es) f → (t : Bool) → eqb (length e.spelling) (length f) ≡ t
     → lookup (e ∷ es) f ≡ lookup (pick t (e ∷ sized (length f) es) (sized (length f) es)) f
 unfolding lookup
-one_sized e es f h true p = ap (pick (eqbs f e.spelling) e.word) h
+one_sized e es f h true p = ap (pick (eqbs f e.spelling) (Some e.word)) h
 one_sized e es f h false p = rw (← other_length f e.spelling (λ (z : length f ≡ length e.spelling). eqb-false _ _ p (sym z))) h
 
 sized_same : (es : List Entry) (f : List ℕ) → lookup es f ≡ lookup (sized (length f) es) f
 sized_same [] f = refl
 sized_same (e ∷ es) f = one_sized e es f (sized_same es f) (eqb (length e.spelling) (length f)) refl
 
-pub by_size : (n : ℕ) (f : List ℕ) (r : Word) → length f ≡ n → r ≡ lookup (sized n vocabulary) f → r ≡ word_of f
+pub by_size : (n : ℕ) (f : List ℕ) (r : Option Word) → length f ≡ n → r ≡ lookup (sized n vocabulary) f → r ≡ word_of f
 unfolding word_of
 by_size n f r e h = h ∙ ap (λ (k : ℕ). lookup (sized k vocabulary) f) (sym e) ∙ sym (sized_same vocabulary f)
 
@@ -70,9 +70,9 @@ none_sized [] n h = refl
 none_sized (e ∷ es) n h = rw h.0 (none_sized es n h.1)
 
 pub no_size : (f : List ℕ) → (length f ≡ 2 → ⊥) → (length f ≡ 3 → ⊥) → (length f ≡ 4 → ⊥) → (length f ≡ 5 → ⊥) → (length f ≡ 6 → ⊥) → (length f ≡ 7 → ⊥) → (length f ≡ 10 → ⊥)
-    → Unknown ≡ word_of f
+    → None ≡ word_of f
 no_size f h2 h3 h4 h5 h6 h7 h10 =
-    by_size (length f) f Unknown refl (none_left f ∙ ap (λ (es : List Entry). lookup es f) (sym (none_sized vocabulary (length f) all)))
+    by_size (length f) f None refl (none_left f ∙ ap (λ (es : List Entry). lookup es f) (sym (none_sized vocabulary (length f) all)))
   where
     o : (n : ℕ) → (length f ≡ n → ⊥) → eqb n (length f) ≡ false
     o n k = ne_eqb n (length f) (λ (z : n ≡ length f). k (sym z))

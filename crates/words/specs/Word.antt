@@ -1,13 +1,14 @@
 -- The words that a line can begin with, as bytes.
 --     vocabulary      every word with its spelling
---     word_of          the word that bytes spell, unknown where they spell none
+--     word_of          the word that bytes spell, none where they spell none
+--     fields_behind    how many fields stand behind a word
 --     spelling_of      the spelling of a word by its number, which is its place in the vocabulary; its length and its letters
-use Rattle.std.specs.Prelude.{List, [], ◌∷◌, ℕ, zero, suc, length, get_or}
+use Rattle.std.specs.Prelude.{List, [], ◌∷◌, ℕ, zero, suc, length, get_or, Option, Some, None}
 use Rattle.terms.specs.Choice.{pick}
 use Rattle.terms.specs.Ops.{var_op, in_op, out_op, not_op, next_op, always_op, eventually_op, always_for_op, within_op, and_op, or_op, implies_op, until_op}
 use Rattle.words.specs.Same.{eqbs}
 use Rattle.words.specs.declared.word.Word.{Word}
-use Rattle.words.specs.declared.word.Word.TheVariants.{Atom, Plain, Bounded, Rule, Step, States, Slot, Unknown}
+use Rattle.words.specs.declared.word.Word.TheVariants.{Atom, Plain, Bounded, Rule, Step, States, Slot}
 
 -- a word and its spelling
 pub record Entry : Type 0 where
@@ -36,25 +37,43 @@ vocabulary =
     record { spelling = 115 ∷ 108 ∷ 111 ∷ 116 ∷ []; word = Slot } ∷  -- slot
     []
 
--- the first entry that is spelled so
-unfoldable pub lookup : List Entry → List ℕ → Word
-lookup [] f = Unknown
-lookup (e ∷ es) f = pick (eqbs f e.spelling) e.word (lookup es f)
+-- how many fields stand behind a word in a line
+abbrev pub fields_behind : Word → ℕ
+fields_behind (Atom op) = 1
+fields_behind (Plain op) = 0
+fields_behind (Bounded op) = 1
+fields_behind Rule = 2
+fields_behind Step = 2
+fields_behind States = 1
+fields_behind Slot = 2
 
-unfoldable pub word_of : List ℕ → Word
+-- the first entry that is spelled so
+unfoldable pub lookup : List Entry → List ℕ → Option Word
+lookup [] f = None
+lookup (e ∷ es) f = pick (eqbs f e.spelling) (Some e.word) (lookup es f)
+
+unfoldable pub word_of : List ℕ → Option Word
 word_of f = lookup vocabulary f
 
 -- ---- a word by its number, its place in the vocabulary; past the last there is none, and nothing is spelled
-abbrev pub entry_at : List Entry → ℕ → Entry
-entry_at [] k = record { spelling = []; word = Unknown }
-entry_at (e ∷ es) zero = e
+abbrev pub entry_at : List Entry → ℕ → Option Entry
+entry_at [] k = None
+entry_at (e ∷ es) zero = Some e
 entry_at (e ∷ es) (suc k) = entry_at es k
 
-abbrev pub word_at : ℕ → Word
-word_at k = (entry_at vocabulary k).word
+abbrev pub word_in : Option Entry → Option Word
+word_in None = None
+word_in (Some e) = Some e.word
+
+abbrev pub spelling_in : Option Entry → List ℕ
+spelling_in None = []
+spelling_in (Some e) = e.spelling
+
+abbrev pub word_at : ℕ → Option Word
+word_at k = word_in (entry_at vocabulary k)
 
 abbrev pub spelling_of : ℕ → List ℕ
-spelling_of k = (entry_at vocabulary k).spelling
+spelling_of k = spelling_in (entry_at vocabulary k)
 
 unfoldable pub length_of : ℕ → ℕ
 length_of k = length (spelling_of k)

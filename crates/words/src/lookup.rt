@@ -1,4 +1,5 @@
 // The word that bytes spell, by their length and their letters. Up to eight letters are compared at once, as one number.
+// A function a length, and the letters written out in each: no constant array or byte string holds a word, so there is no table to go through.
 ghost use Rattle.std.specs.Prelude.{[], ◌∷◌, ◌≡◌, length};
 ghost use Rattle.words.specs.Coded.{Coded, sized};
 ghost use Rattle.words.specs.Same.{eqbs};
@@ -13,7 +14,7 @@ use terms::op::{
 fn four_as_one(a: u8, b: u8, c: u8, d: u8) -> u64
     ensures { Coded (a ∷ b ∷ c ∷ d ∷ []) result }
 {
-    (a as u64) + 256 * (b as u64) + 65536 * (c as u64) + 16777216 * (d as u64)
+    u64::from(a) + 256 * u64::from(b) + 65536 * u64::from(c) + 16777216 * u64::from(d)
 }
 
 fn as_one(a: u8, b: u8, c: u8, d: u8, e: u8, g: u8, h: u8, i: u8) -> u64
@@ -23,102 +24,102 @@ fn as_one(a: u8, b: u8, c: u8, d: u8, e: u8, g: u8, h: u8, i: u8) -> u64
 }
 
 // The words of two letters.
-fn of_two(f: &[u8]) -> Word
+fn of_two(f: &[u8]) -> Option<Word>
     requires { length f.now ≡ 2 }
     ensures { result ≡ lookup (sized 2 vocabulary) f.now }
 {
     let w = as_one(f[0], f[1], 0, 0, 0, 0, 0, 0);
     if w == as_one(b'i', b'n', 0, 0, 0, 0, 0, 0) {
-        return Word::Atom(IN);
+        return Some(Word::Atom(IN));
     }
     if w == as_one(b'o', b'r', 0, 0, 0, 0, 0, 0) {
-        return Word::Plain(OR);
+        return Some(Word::Plain(OR));
     }
-    Word::Unknown
+    None
 }
 
 // The words of three letters.
-fn of_three(f: &[u8]) -> Word
+fn of_three(f: &[u8]) -> Option<Word>
     requires { length f.now ≡ 3 }
     ensures { result ≡ lookup (sized 3 vocabulary) f.now }
 {
     let w = as_one(f[0], f[1], f[2], 0, 0, 0, 0, 0);
     if w == as_one(b'v', b'a', b'r', 0, 0, 0, 0, 0) {
-        return Word::Atom(VAR);
+        return Some(Word::Atom(VAR));
     }
     if w == as_one(b'o', b'u', b't', 0, 0, 0, 0, 0) {
-        return Word::Atom(OUT);
+        return Some(Word::Atom(OUT));
     }
     if w == as_one(b'n', b'o', b't', 0, 0, 0, 0, 0) {
-        return Word::Plain(NOT);
+        return Some(Word::Plain(NOT));
     }
     if w == as_one(b'a', b'n', b'd', 0, 0, 0, 0, 0) {
-        return Word::Plain(AND);
+        return Some(Word::Plain(AND));
     }
-    Word::Unknown
+    None
 }
 
 // The words of four letters.
-fn of_four(f: &[u8]) -> Word
+fn of_four(f: &[u8]) -> Option<Word>
     requires { length f.now ≡ 4 }
     ensures { result ≡ lookup (sized 4 vocabulary) f.now }
 {
     let w = as_one(f[0], f[1], f[2], f[3], 0, 0, 0, 0);
     if w == as_one(b'n', b'e', b'x', b't', 0, 0, 0, 0) {
-        return Word::Plain(NEXT);
+        return Some(Word::Plain(NEXT));
     }
     if w == as_one(b'r', b'u', b'l', b'e', 0, 0, 0, 0) {
-        return Word::Rule;
+        return Some(Word::Rule);
     }
     if w == as_one(b's', b't', b'e', b'p', 0, 0, 0, 0) {
-        return Word::Step;
+        return Some(Word::Step);
     }
     if w == as_one(b's', b'l', b'o', b't', 0, 0, 0, 0) {
-        return Word::Slot;
+        return Some(Word::Slot);
     }
-    Word::Unknown
+    None
 }
 
 // The words of five letters.
-fn of_five(f: &[u8]) -> Word
+fn of_five(f: &[u8]) -> Option<Word>
     requires { length f.now ≡ 5 }
     ensures { result ≡ lookup (sized 5 vocabulary) f.now }
 {
     let w = as_one(f[0], f[1], f[2], f[3], f[4], 0, 0, 0);
     if w == as_one(b'u', b'n', b't', b'i', b'l', 0, 0, 0) {
-        return Word::Plain(UNTIL);
+        return Some(Word::Plain(UNTIL));
     }
-    Word::Unknown
+    None
 }
 
 // The words of six letters.
-fn of_six(f: &[u8]) -> Word
+fn of_six(f: &[u8]) -> Option<Word>
     requires { length f.now ≡ 6 }
     ensures { result ≡ lookup (sized 6 vocabulary) f.now }
 {
     let w = as_one(f[0], f[1], f[2], f[3], f[4], f[5], 0, 0);
     if w == as_one(b'a', b'l', b'w', b'a', b'y', b's', 0, 0) {
-        return Word::Plain(ALWAYS);
+        return Some(Word::Plain(ALWAYS));
     }
     if w == as_one(b'w', b'i', b't', b'h', b'i', b'n', 0, 0) {
-        return Word::Bounded(WITHIN);
+        return Some(Word::Bounded(WITHIN));
     }
     if w == as_one(b's', b't', b'a', b't', b'e', b's', 0, 0) {
-        return Word::States;
+        return Some(Word::States);
     }
-    Word::Unknown
+    None
 }
 
 // The words of seven letters.
-fn of_seven(f: &[u8]) -> Word
+fn of_seven(f: &[u8]) -> Option<Word>
     requires { length f.now ≡ 7 }
     ensures { result ≡ lookup (sized 7 vocabulary) f.now }
 {
     let w = as_one(f[0], f[1], f[2], f[3], f[4], f[5], f[6], 0);
     if w == as_one(b'i', b'm', b'p', b'l', b'i', b'e', b's', 0) {
-        return Word::Plain(IMPLIES);
+        return Some(Word::Plain(IMPLIES));
     }
-    Word::Unknown
+    None
 }
 
 // Whether ten bytes are these letters: the first eight, then the last two.
@@ -135,25 +136,25 @@ fn ten(f: &[u8], a: u8, b: u8, c: u8, d: u8, e: u8, g: u8, h: u8, i: u8, j: u8, 
 }
 
 // The words of ten letters.
-fn of_ten(f: &[u8]) -> Word
+fn of_ten(f: &[u8]) -> Option<Word>
     requires { length f.now ≡ 10 }
     ensures { result ≡ lookup (sized 10 vocabulary) f.now }
 {
     if ten(
         f, b'e', b'v', b'e', b'n', b't', b'u', b'a', b'l', b'l', b'y',
     ) {
-        return Word::Plain(EVENTUALLY);
+        return Some(Word::Plain(EVENTUALLY));
     }
     if ten(
         f, b'a', b'l', b'w', b'a', b'y', b's', b'-', b'f', b'o', b'r',
     ) {
-        return Word::Bounded(ALWAYS_FOR);
+        return Some(Word::Bounded(ALWAYS_FOR));
     }
-    Word::Unknown
+    None
 }
 
-// The word that the bytes spell, or unknown where they spell none.
-pub fn look_up(f: &[u8]) -> Word
+// The word that the bytes spell, if they spell one.
+pub fn look_up(f: &[u8]) -> Option<Word>
     ensures { result ≡ word_of f.now }
 {
     let n = f.len();
@@ -176,7 +177,7 @@ pub fn look_up(f: &[u8]) -> Word
         return of_seven(f);
     }
     if n != 10 {
-        return Word::Unknown;
+        return None;
     }
     of_ten(f)
 }

@@ -1,9 +1,10 @@
-use Rattle.std.proofs.Common.{refl, arith}
-use Rattle.cavewatch.proofs.Answered.{listed, never_refused}
+use Rattle.std.proofs.Common.{arith, ap}
+use Rattle.std.specs.Prelude.{is_ok}
+use Rattle.cavewatch.proofs.Answered.{length_told, listed}
 use Rattle.cavewatch.proofs.list.Goals as goal
 
-pub returns-in-Text-clause-out_after : goal.returns-in-Text-clause-out_after
-returns-in-Text-clause-out_after c = listed _ _ _ _ c.in-Text.ensures.answers (omega arith) _ refl
+pub unwrap-requires : goal.unwrap-requires
+unwrap-requires c = ap is_ok (length_told _ _ _ _ c.list_book.ensures.answers (omega arith))
 
-pub returns-in-Refused-clause-out_after : goal.returns-in-Refused-clause-out_after
-returns-in-Refused-clause-out_after c = absurd (never_refused _ _ _ _ c.in-Refused.ensures.answers (omega arith) _ refl)
+pub returns-clause-out_after : goal.returns-clause-out_after
+returns-clause-out_after c = listed _ _ _ _ c.list_book.ensures.answers (omega arith) _ c.unwrap.ensures

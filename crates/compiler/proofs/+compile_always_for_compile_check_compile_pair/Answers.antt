@@ -1,16 +1,14 @@
 use Rattle.compiler.proofs.Compiling.{ready_in_nums, ready_in_ops, ready_room}
-use Rattle.compiler.proofs.Joining.{always_for_laid, always_for_under, always_for_zero, always_laid, eventually_refused, falls_from_part, falls_operand, falls_right, falls_to_part, from_joins, join_numbered, pair_laid, pair_refused, ready_always, ready_always_for, ready_left, ready_right, until_refused}
+use Rattle.compiler.proofs.Joining.{always_for_laid, always_for_under, always_for_zero, always_laid, eventually_refused, falls_from_part, falls_operand, falls_right, join_numbered, pair_laid, pair_refused, ready_always, ready_always_for, ready_left, ready_right, until_refused}
+use native.Mathlib.Omega.{arith}
 use borrow.Author.Rules.{rules}
 use Rattle.compiler.proofs.+compile_always_for_compile_check_compile_pair.Goals as goal
 
 pub compile_always_for-returns-then-temporal : goal.compile_always_for-returns-then-temporal
 compile_always_for-returns-then-temporal t c = search (rules, always_for_under)
 
-pub compile_always_for-offset_bounds-nums-i : goal.compile_always_for-offset_bounds-nums-i
-compile_always_for-offset_bounds-nums-i t c = search (rules, ready_in_nums)
-
-pub compile_always_for-bounds-nums-i : goal.compile_always_for-bounds-nums-i
-compile_always_for-bounds-nums-i t c = search (rules, ready_in_nums)
+pub compile_always_for-bounds-table-i : goal.compile_always_for-bounds-table-i
+compile_always_for-bounds-table-i t c = search (rules, ready_in_nums)
 
 pub compile_always_for-returns-then-b-eq0 : goal.compile_always_for-returns-then-b-eq0
 compile_always_for-returns-then-b-eq0 t c = search (rules, always_for_zero)
@@ -18,56 +16,26 @@ compile_always_for-returns-then-b-eq0 t c = search (rules, always_for_zero)
 pub compile_always_for-compile_check-requires : goal.compile_always_for-compile_check-requires
 compile_always_for-compile_check-requires t c = (
   falls_from_part _ _ _ _ _ _ c.requires.0 t c.decreases,
-  ready_always_for _ _ _ _ _ _ c.requires.0 _ _ c.requires.1 (c.shared_slice_known-3-1.given c.args.i).fits c.if-b-eq0.false c.upto.ensures,
+  ready_always_for _ _ _ _ _ _ c.requires.0 _ _ c.requires.1 (omega arith) c.if-b-eq0.false c.upto.ensures,
 )
 
 pub compile_always_for-returns : goal.compile_always_for-returns
 compile_always_for-returns t c = search (rules, always_for_laid)
 
-pub compile_check-bounds-ops-i : goal.compile_check-bounds-ops-i
-compile_check-bounds-ops-i t c = search (rules, ready_in_ops)
+pub compile_check-bounds-table-i : goal.compile_check-bounds-table-i
+compile_check-bounds-table-i t c = search (rules, ready_in_ops)
 
 pub compile_check-compile_check-requires : goal.compile_check-compile_check-requires
 compile_check-compile_check-requires t c = search (rules, ready_always, falls_operand)
 
-pub compile_check-compile_always_for-requires : goal.compile_check-compile_always_for-requires
-compile_check-compile_always_for-requires t c = search (rules, falls_to_part)
-
-pub compile_check-compile_pair-requires : goal.compile_check-compile_pair-requires
-compile_check-compile_pair-requires t c = search (rules, falls_to_part, from_joins)
-
-pub compile_check-returns-in-3 : goal.compile_check-returns-in-3
-compile_check-returns-in-3 t c = search (rules, always_laid)
-
-pub compile_check-returns-in-4 : goal.compile_check-returns-in-4
-compile_check-returns-in-4 t c = search (rules, always_laid)
-
 pub compile_check-returns-in-5 : goal.compile_check-returns-in-5
 compile_check-returns-in-5 t c = search (rules, always_laid)
-
-pub compile_check-returns-in-7 : goal.compile_check-returns-in-7
-compile_check-returns-in-7 t c = search (rules, always_laid)
-
-pub compile_check-returns-in-8 : goal.compile_check-returns-in-8
-compile_check-returns-in-8 t c = search (rules, always_laid)
-
-pub compile_check-returns-in-11 : goal.compile_check-returns-in-11
-compile_check-returns-in-11 t c = search (rules, always_laid)
-
-pub compile_check-returns-in-0 : goal.compile_check-returns-in-0
-compile_check-returns-in-0 t c = search (rules, always_laid)
-
-pub compile_check-returns-in-9 : goal.compile_check-returns-in-9
-compile_check-returns-in-9 t c = search (rules, always_laid)
 
 pub compile_check-returns-in_default : goal.compile_check-returns-in_default
 compile_check-returns-in_default t c = search (rules, eventually_refused)
 
 pub compile_check-returns-in_default-2 : goal.compile_check-returns-in_default-2
 compile_check-returns-in_default-2 t c = search (rules, until_refused)
-
-pub compile_pair-bounds-ops-i : goal.compile_pair-bounds-ops-i
-compile_pair-bounds-ops-i t c = search (rules, ready_in_ops)
 
 pub compile_pair-put_node-requires : goal.compile_pair-put_node-requires
 compile_pair-put_node-requires t c = search (rules, ready_room, join_numbered)
@@ -80,8 +48,8 @@ compile_pair-returns-in_default t c = search (rules, pair_refused)
 
 pub compile_pair-compile_check-requires : goal.compile_pair-compile_check-requires
 compile_pair-compile_check-requires t c = (
-  falls_right _ _ _ _ _ c.requires.1 c.requires.2 _ _ _ _ c.join_node.ensures c.put_node.ensures _ _ c.compile_check-left.ensures c.in-Upto.n c.in-Upto.j (search rules) t c.requires.0 c.decreases,
-  ready_right _ _ _ _ _ c.requires.1 c.requires.2 _ _ _ _ c.join_node.ensures c.put_node.ensures _ _ c.compile_check-left.ensures c.in-Upto.n c.in-Upto.j (search rules) c.requires.0,
+  falls_right _ _ _ _ _ c.requires.1 c.requires.2 _ _ _ _ c.join_node.ensures c.put_node.ensures _ _ c.compile_check-left.ensures c.in-Ok.laid (search rules) t c.requires.0 c.decreases,
+  ready_right _ _ _ _ _ c.requires.1 c.requires.2 _ _ _ _ c.join_node.ensures c.put_node.ensures _ _ c.compile_check-left.ensures c.in-Ok.laid (search rules) c.requires.0,
 )
 
 pub compile_pair-returns : goal.compile_pair-returns

@@ -1,12 +1,6 @@
-use Rattle.compiler.proofs.Compiling.{placed_delayed, implied_room, antecedent_fits, consequent_fits, delayed_laid, behind_fits}
+use Rattle.compiler.proofs.Compiling.{placed_delayed, implied_room, antecedent_fits, consequent_fits, delayed_laid}
 use borrow.Author.Rules.{rules}
 use Rattle.compiler.proofs.compile_delayed.Goals as goal
-
-pub overflow_add-node-2 : goal.overflow_add-node-2
-overflow_add-node-2 c = search (rules, behind_fits)
-
-pub overflow_add-j : goal.overflow_add-j
-overflow_add-j c = search (rules, behind_fits)
 
 pub lay_if_pure-requires : goal.lay_if_pure-requires
 lay_if_pure-requires c = search (rules, placed_delayed, implied_room, antecedent_fits, consequent_fits)

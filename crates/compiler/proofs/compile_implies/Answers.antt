@@ -1,21 +1,15 @@
-use Rattle.compiler.proofs.Compiling.{antecedent_refused, consequent_in, implied, placed_antecedent}
+use Rattle.std.proofs.lemmas.Result.{err_from_is_err_and}
+use Rattle.compiler.proofs.Compiling.{antecedent_refused, consequent_in, placed_antecedent}
 use borrow.Author.Rules.{rules}
 use Rattle.compiler.proofs.compile_implies.Goals as goal
 
 pub boolean_over_atoms-requires : goal.boolean_over_atoms-requires
 boolean_over_atoms-requires c = search (rules, placed_antecedent)
 
-pub returns-in_default : goal.returns-in_default
-returns-in_default c = search (rules, antecedent_refused)
+pub returns-in_err-j : goal.returns-in_err-j
+returns-in_err-j c =
+    let p = err_from_is_err_and c.from_residual.result c.from_residual.ensures.1 in
+    rw (p.1, p.2) (antecedent_refused _ _ _ _ _ _ _ _ _ c.requires.1 c.boolean_over_atoms.ensures c.in_err-j.ensures.value c.in_err-j.ensures.ok_part)
 
-pub bounds-ops-j : goal.bounds-ops-j
-bounds-ops-j c = search (rules, consequent_in)
-
-pub compile_owed-requires : goal.compile_owed-requires
-compile_owed-requires c = search (rules, implied)
-
-pub compile_delayed-requires : goal.compile_delayed-requires
-compile_delayed-requires c = search (rules, implied)
-
-pub compile_pure_implies-requires : goal.compile_pure_implies-requires
-compile_pure_implies-requires c = search (rules, implied)
+pub bounds-table-j : goal.bounds-table-j
+bounds-table-j c = search (rules, consequent_in, c.in_ok-j.ensures.ok_part)

@@ -1,18 +1,34 @@
-use Rattle.compiler.proofs.Answering.{ready_rule, rule_refused, rule_compiled, seven_fits, seven_inside, aside_inside}
+use native.Mathlib.Omega.{arith}
+use Rattle.std.proofs.lemmas.Result.{err_from_is_err_and}
+use Rattle.compiler.proofs.Answering.{ready_rule, rule_refused, rule_compiled, seven_fits, inside, front, fronts}
 use borrow.Author.Rules.{rules}
 use Rattle.compiler.proofs.compile_rule.Goals as goal
 
-pub compile_check-laid-requires : goal.compile_check-laid-requires
-compile_check-laid-requires c = search (rules, ready_rule)
+pub compile_check-requires : goal.compile_check-requires
+compile_check-requires c = search (rules, ready_rule)
 
-pub returns-in_default : goal.returns-in_default
-returns-in_default c = search (rules, rule_refused)
+pub overflow_mul-cells : goal.overflow_mul-cells
+overflow_mul-cells c = search (rules, seven_fits, c.in_ok-laid.was)
 
-pub overflow_mul-n : goal.overflow_mul-n
-overflow_mul-n c = search (rules, seven_fits)
+pub returns-in_err-laid : goal.returns-in_err-laid
+returns-in_err-laid c =
+    let p = err_from_is_err_and c.from_residual.result c.from_residual.ensures.1 in
+    rw (p.1, p.2) (rule_refused _ _ _ _ c.requires.0 _ _ _ _ c.all.ensures c.compile_check.ensures _ _ c.in_err-laid.was)
 
-pub copy-requires : goal.copy-requires
-copy-requires c = search (rules, aside_inside, seven_inside)
+pub slice_bounds-copy_from_slice-end : goal.slice_bounds-copy_from_slice-end
+slice_bounds-copy_from_slice-end c = inside _ _ _ _ c.requires.0 _ _ _ _ c.all.ensures c.compile_check.ensures _ c.in_ok-laid.was _ (omega arith)
+
+pub slice_bounds-copy_from_slice-end-2 : goal.slice_bounds-copy_from_slice-end-2
+slice_bounds-copy_from_slice-end-2 c = front _ _ _ _ c.requires.0 _ _ _ _ c.all.ensures c.compile_check.ensures _ c.in_ok-laid.was _ (omega arith)
+
+pub slice_bounds-copy_from_slice-end-3 : goal.slice_bounds-copy_from_slice-end-3
+slice_bounds-copy_from_slice-end-3 c = front _ _ _ _ c.requires.0 _ _ _ _ c.all.ensures c.compile_check.ensures _ c.in_ok-laid.was _ (omega arith)
+
+pub slice_bounds-aside-end : goal.slice_bounds-aside-end
+slice_bounds-aside-end c = inside _ _ _ _ c.requires.0 _ _ _ _ c.all.ensures c.compile_check.ensures _ c.in_ok-laid.was _ (omega arith)
+
+pub copy_from_slice-requires : goal.copy_from_slice-requires
+copy_from_slice-requires c = fronts _ _ _ _ c.requires.0 _ _ _ _ c.all.ensures c.compile_check.ensures _ c.in_ok-laid.was _ _ (omega arith) (omega arith)
 
 pub returns : goal.returns
-returns c = search (rules, rule_compiled)
+returns c = rule_compiled _ _ _ _ c.requires.0 _ _ _ _ c.all.ensures c.compile_check.ensures _ c.in_ok-laid.was _ _ (omega arith) (omega arith) c.copy_from_slice.ensures.after

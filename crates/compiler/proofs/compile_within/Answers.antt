@@ -2,8 +2,8 @@ use Rattle.compiler.proofs.Compiling.{placed_of_within, ready_room, next_fits, w
 use borrow.Author.Rules.{rules}
 use Rattle.compiler.proofs.compile_within.Goals as goal
 
-pub bounds-nums-i : goal.bounds-nums-i
-bounds-nums-i c = search (rules, ready_in_nums)
+pub bounds-table-i : goal.bounds-table-i
+bounds-table-i c = search (rules, ready_in_nums)
 
 pub lay_if_pure-requires : goal.lay_if_pure-requires
 lay_if_pure-requires c = search (rules, placed_of_within, ready_room, next_fits)

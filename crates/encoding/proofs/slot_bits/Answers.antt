@@ -1,18 +1,13 @@
-use Rattle.encoding.proofs.Sums.{slotted_none, slotted_all, slotted_in, slotted_fits, slotted_more}
+use Rattle.std.proofs.Common.{◌≡◌, ◌<◌, take}
+use Rattle.std.specs.List.{sum}
 use borrow.Author.Rules.{rules}
+use Rattle.encoding.proofs.Sums.{slots_fit, slots_summed}
 use Rattle.encoding.proofs.slot_bits.Goals as goal
 
-pub loop-k-init : goal.loop-k-init
-loop-k-init c = search (rules, slotted_none)
-
-pub bounds-widths-k : goal.bounds-widths-k
-bounds-widths-k c = search (rules, slotted_in)
-
-pub overflow_add-sum : goal.overflow_add-sum
-overflow_add-sum c = search (rules, slotted_fits)
-
-pub loop-k-preserved : goal.loop-k-preserved
-loop-k-preserved c = search (rules, slotted_more)
+pub sum-requires-clause-fits : goal.sum-requires-clause-fits
+sum-requires-clause-fits c =
+    let h : sum (take c.args.m c.args.widths.now) < 18446744073709551616 = slots_fit _ _ c.requires in search rules
 
 pub returns : goal.returns
-returns c = search (rules, slotted_all)
+returns c =
+    let e : c.sum.result ≡ sum (take c.args.m c.args.widths.now) = search rules in slots_summed _ _ c.requires _ e

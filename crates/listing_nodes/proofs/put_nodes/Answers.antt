@@ -7,13 +7,13 @@ use Rattle.listing_nodes.proofs.put_nodes.Goals as goal
 pub loop-k-init : goal.loop-k-init
 loop-k-init c = search (rules, noded_first)
 
-pub overflow_add-nfirst : goal.overflow_add-nfirst
-overflow_add-nfirst c =
-    let x = row_inside c.args.ops.now c.args.nums.now c.args.nodes.now c.args.nfirst c.args.ncount c.loop-k.k c.requires c.loop-k-test.true in
+pub overflow_add-part : goal.overflow_add-part
+overflow_add-part c =
+    let x = row_inside c.args.tables.now.formulas.ops.now c.args.tables.now.formulas.nums.now c.args.tables.now.nodes.now c.args.part.nfirst c.args.part.ncount c.loop-k.k c.requires (omega arith) in
     omega (arith, x)
 
-pub row_at-row-requires : goal.row_at-row-requires
-row_at-row-requires c = search (rules, row_inside)
+pub row_at-requires : goal.row_at-requires
+row_at-requires c = search (rules, row_inside)
 
 pub returns-in_default : goal.returns-in_default
 returns-in_default c = search (rules, noded_unknown)

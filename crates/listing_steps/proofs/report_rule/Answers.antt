@@ -3,21 +3,21 @@ use Rattle.listing_steps.proofs.Turns.{turn_refused, turn_walks, turn_low, turn_
 use borrow.Author.Rules.{rules}
 use Rattle.listing_steps.proofs.report_rule.Goals as goal
 
-pub returns-then-refusals-r-ne0 : goal.returns-then-refusals-r-ne0
-returns-then-refusals-r-ne0 c = search (rules, turn_refused)
+pub returns-then-rules-r-ne0 : goal.returns-then-rules-r-ne0
+returns-then-rules-r-ne0 c = search (rules, turn_refused)
 
 pub step_rule-broken-requires : goal.step_rule-broken-requires
 step_rule-broken-requires c = search (rules, turn_walks)
 
-pub offset_bounds-culprits-k : goal.offset_bounds-culprits-k
-offset_bounds-culprits-k c = omega (arith, turn_low _ _ _ _ _ _ _ _ _ _ c.requires c.if-refusals-r-ne0.false)
+pub offset_bounds-memory-k : goal.offset_bounds-memory-k
+offset_bounds-memory-k c = omega (arith, turn_low _ _ _ _ _ _ _ _ _ _ c.requires c.if-rules-r-ne0.false)
 
-pub slice_copy_out-culprit : goal.slice_copy_out-culprit
-slice_copy_out-culprit c = omega (arith, turn_room _ _ _ _ _ _ _ _ _ _ c.requires c.if-refusals-r-ne0.false, c.step_rule-broken.auto)
+pub bounds-memory-k : goal.bounds-memory-k
+bounds-memory-k c = omega (arith, turn_room _ _ _ _ _ _ _ _ _ _ c.requires c.if-rules-r-ne0.false, c.step_rule-broken.ensures.same.culprits_length)
 
 pub put_report-place-requires : goal.put_report-place-requires
 put_report-place-requires c =
-    search (rules, turn_culprit _ _ _ _ _ _ _ _ _ _ c.requires c.if-refusals-r-ne0.false _ _ c.step_rule-broken.ensures)
+    search (rules, turn_culprit _ _ _ _ _ _ _ _ _ _ c.requires c.if-rules-r-ne0.false _ _ c.step_rule-broken.ensures.stepped)
 
 pub returns-then-broken : goal.returns-then-broken
 returns-then-broken c = search (rules, turn_broken)

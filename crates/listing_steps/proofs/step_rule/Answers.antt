@@ -4,14 +4,14 @@ use Rattle.listing_steps.proofs.HeldState.{stepped_before, stepped_after}
 use borrow.Author.Rules.{rules}
 use Rattle.listing_steps.proofs.step_rule.Goals as goal
 
-pub bounds-failed-k : goal.bounds-failed-k
-bounds-failed-k c = omega (arith, count_pos c.requires.mon)
+pub bounds-memory-k : goal.bounds-memory-k
+bounds-memory-k c = omega (arith, count_pos c.requires.mon)
 
-pub returns-then-before : goal.returns-then-before
-returns-then-before c = search (rules, stepped_before)
+pub returns-else-not-before : goal.returns-else-not-before
+returns-else-not-before c = search (rules, stepped_before)
 
-pub bounds-failed-k-2 : goal.bounds-failed-k-2
-bounds-failed-k-2 c = omega (arith, count_pos c.requires.mon, c.step_node.auto)
+pub bounds-memory-k-then-not-before : goal.bounds-memory-k-then-not-before
+bounds-memory-k-then-not-before c = omega (arith, count_pos c.requires.mon, c.step_node.ensures.same.failed_length)
 
-pub returns : goal.returns
-returns c = search (rules, stepped_after)
+pub returns-then-not-before : goal.returns-then-not-before
+returns-then-not-before c = search (rules, stepped_after)

@@ -10,13 +10,10 @@ pub report_rule-p-requires : goal.report_rule-p-requires
 report_rule-p-requires c = search (rules, upto_due)
 
 pub overflow_add-count : goal.overflow_add-count
-overflow_add-count c = omega (arith, c.report_rule-p.ensures.few, c.loop-r.invariant.0.few, c.loop-r.invariant.0.high, c.requires.rows.few)
-
-pub overflow_add-r : goal.overflow_add-r
-overflow_add-r c = omega (arith, c.loop-r.invariant.0.high, c.requires.rows.few)
+overflow_add-count c = omega (arith, c.report_rule-p.ensures.stepped.few, c.loop-r.invariant.ran.few, c.loop-r.invariant.ran.high, c.requires.rows.few)
 
 pub loop-r-preserved : goal.loop-r-preserved
-loop-r-preserved c = (search (rules, upto_next), omega (arith, c.report_rule-p.auto, c.loop-r.invariant.1))
+loop-r-preserved c = search (rules, upto_next)
 
 pub returns : goal.returns
 returns c = search (rules, upto_all)

@@ -1,25 +1,16 @@
+use Rattle.runs.proofs.Running.{along_below, along_end, along_fit, along_found, along_quiet, along_report}
 use native.Mathlib.Omega.{arith}
 use borrow.Author.Rules.{rules}
-use Rattle.runs.proofs.Running.{along_start, along_end, along_below, along_fit, along_next}
 use Rattle.runs.proofs.run_fit.Goals as goal
 
-pub loop-i-init : goal.loop-i-init
-loop-i-init c = search (rules, along_start)
-
-pub step_fit-v-requires : goal.step_fit-v-requires
-step_fit-v-requires c = along_fit _ _ _ _ _ _ _ _ _ _ _ c.loop-i.invariant.0 c.loop-i-test.true
+pub step_fit-reports-requires : goal.step_fit-reports-requires
+step_fit-reports-requires c = along_fit _ _ _ _ _ _ _ _ _ _ _ c.loop-word.invariant.along c.loop-word-test.true
 
 pub overflow_add-at : goal.overflow_add-at
-overflow_add-at c = omega (arith, along_below _ _ _ _ _ _ _ _ _ _ _ c.loop-i.invariant.0 c.loop-i-test.true)
+overflow_add-at c = record { fits = omega (arith, along_below _ _ _ _ _ _ _ _ _ _ _ c.loop-word.invariant.along c.loop-word-test.true) }
 
-pub overflow_add-i : goal.overflow_add-i
-overflow_add-i c = omega (arith, c.loop-i-test.true, c.before)
+pub loop-word-preserved : goal.loop-word-preserved
+loop-word-preserved c = search (rules, along_report, along_quiet, along_found)
 
-pub loop-i-preserved : goal.loop-i-preserved
-loop-i-preserved c = (
-  along_next _ _ _ _ _ _ _ _ _ _ _ c.loop-i.invariant.0 c.loop-i-test.true c.step_fit-v.result _ c.step_fit-v.ensures _ _ c.report_at.ensures c.first_verdict-r.ensures,
-  record { held = search rules; remaining = search rules; failed = search rules; culprits = search rules },
-)
-
-pub returns : goal.returns
-returns c = search (rules, along_end)
+pub returns-clause-stepped : goal.returns-clause-stepped
+returns-clause-stepped c = along_end _ _ _ _ _ _ _ _ _ _ _ c.loop-word.invariant.along (omega arith)

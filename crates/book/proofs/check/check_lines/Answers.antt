@@ -17,14 +17,14 @@ take-taken-requires c = search (rules, run_room, run_small)
 pub overflow_add-here : goal.overflow_add-here
 overflow_add-here c = search (rules, run_line)
 
-pub returns-in-Faulty : goal.returns-in-Faulty
-returns-in-Faulty c = search (rules, turn_fault)
+pub returns-in-Err : goal.returns-in-Err
+returns-in-Err c = search (rules, turn_fault)
 
 pub overflow_add-at : goal.overflow_add-at
 overflow_add-at c = search (rules, run_add)
 
-pub overflow_add-at-in-Next : goal.overflow_add-at-in-Next
-overflow_add-at-in-Next c = search (rules, run_at)
+pub overflow_add-at-in-Ok : goal.overflow_add-at-in-Ok
+overflow_add-at-in-Ok c = search (rules, run_at)
 
 pub loop-at-smaller : goal.loop-at-smaller
 loop-at-smaller c = search (rules, run_falls)

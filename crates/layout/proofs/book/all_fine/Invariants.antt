@@ -1,10 +1,9 @@
-use Rattle.layout.proofs.Books.{Fining}
+use mathlib.Core.Path.{◌≡◌}
+use mathlib.Core.Bool.{true}
+use Rattle.encoding.specs.Below.{all_below}
 use Rattle.layout.specs.Entry.{fine_of, rule_at, mon_at}
-use Prim.Native.Nat.{◌-◌}
 use Rattle.layout.proofs.book.all_fine.Given as goal
 
 abbrev pub invariant-loop-r : goal.invariant-loop-r
-invariant-loop-r l = Fining l.ops l.nums l.refusals l.firsts l.counts l.nfirsts l.ncounts (fine_of (rule_at l.ops l.nums l.firsts l.counts) l.refusals (mon_at l.ops l.nums l.firsts l.counts l.nodes l.nfirsts l.ncounts)) l.n l.r
-
-abbrev pub decreases-loop-r : goal.decreases-loop-r
-decreases-loop-r l = l.n - l.r
+invariant-loop-r l =
+    all_below (fine_of (rule_at l.tables.formulas.ops.now l.tables.formulas.nums.now l.rules.firsts.now l.rules.counts.now) l.rules.refusals.now (mon_at l.tables.formulas.ops.now l.tables.formulas.nums.now l.rules.firsts.now l.rules.counts.now l.tables.nodes.now l.rules.nfirsts.now l.rules.ncounts.now)) l.r ≡ true

@@ -1,13 +1,7 @@
-use Rattle.layout.proofs.Rules.{bits_short, bits_none, bits_some, part_compiled}
+use Rattle.layout.proofs.Rules.{bits_some, part_compiled}
 use borrow.Author.Tests.{not-true, not-false}
 use borrow.Author.Rules.{rules}
 use Rattle.layout.proofs.rule.layout_for.Goals as goal
-
-pub returns-then-not-is_wide : goal.returns-then-not-is_wide
-returns-then-not-is_wide c = search (rules, bits_short, not-true, not-false)
-
-pub returns-then-not-is_compiled : goal.returns-then-not-is_compiled
-returns-then-not-is_compiled c = search (rules, bits_none, not-true, not-false)
 
 pub rule_bits-requires : goal.rule_bits-requires
 rule_bits-requires c = part_compiled _ _ _ _ _ _ _ _ c.is_compiled.ensures c.if-not-is_compiled.false

@@ -1,16 +1,10 @@
-use Rattle.layout.proofs.Rules.{slot_short, slot_none, slot_past, slot_at, part_compiled}
+use Rattle.layout.proofs.Rules.{slot_past, slot_at, part_compiled}
 use borrow.Author.Tests.{not-true, not-false}
 use borrow.Author.Rules.{rules}
 use Rattle.layout.proofs.rule.node_slot.Goals as goal
 
-pub returns-then-not-is_wide : goal.returns-then-not-is_wide
-returns-then-not-is_wide c = search (rules, slot_short, not-true, not-false)
-
-pub returns-then-not-is_compiled : goal.returns-then-not-is_compiled
-returns-then-not-is_compiled c = search (rules, slot_none, not-true, not-false)
-
-pub returns-then-ncount-j : goal.returns-then-ncount-j
-returns-then-ncount-j c = search (rules, slot_past, not-true, not-false)
+pub returns-then-part-j : goal.returns-then-part-j
+returns-then-part-j c = search (rules, slot_past, not-true, not-false)
 
 pub slot_of-requires : goal.slot_of-requires
 slot_of-requires c = (part_compiled _ _ _ _ _ _ _ _ c.is_compiled.ensures c.if-not-is_compiled.false, search rules)

@@ -5,5 +5,5 @@ use Rattle.line.proofs.line.rule_kind.Goals as goal
 pub returns-then-is_label : goal.returns-then-is_label
 returns-then-is_label c = search (rules, rule_labelled)
 
-pub returns : goal.returns
-returns c = search (rules, rule_unlabelled)
+pub returns-else-is_label : goal.returns-else-is_label
+returns-else-is_label c = search (rules, rule_unlabelled)

@@ -12,4 +12,4 @@ pub shape_of-nodes : goal.shape_of-nodes
 shape_of-nodes c = search (rules, c.compile_rules.auto)
 
 pub returns : goal.returns
-returns c = head_listed _ _ _ _ _ _ _ _ _ _ _ _ _ _ _ _ _ c.compile_rules.ensures c.place_rules.ensures c.put_rules.ensures
+returns c = head_listed _ _ _ _ _ _ _ _ _ _ _ _ _ _ _ _ _ c.compile_rules.ensures c.place_rules.ensures (rw (c.new-tables.ensures.ops, c.new-tables.ensures.nums, c.new-tables.ensures.nodes) at c.put_rules.ensures)

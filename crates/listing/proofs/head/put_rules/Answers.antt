@@ -13,12 +13,9 @@ compiling_at-c-requires c = search (rules, told_ready)
 pub put_rule_at-place-requires : goal.put_rule_at-place-requires
 put_rule_at-place-requires c = search (rules, rule_asked)
 
-pub overflow_add-r : goal.overflow_add-r
-overflow_add-r c = omega (arith, c.loop-r-test.true, c.requires.is.holds.held.few)
-
 pub loop-r-preserved : goal.loop-r-preserved
 loop-r-preserved c =
-    (headed_next _ _ _ _ _ _ _ _ _ _ _ _ _ _ _ _ _ _ _ c.loop-r.invariant.0 c.loop-r-test.true c.compiling_at-c.ensures c.put_rule_at-place.ensures, c.put_rule_at-place.auto.out ∙ c.loop-r.invariant.1)
+    (headed_next _ _ _ _ _ _ _ _ _ _ _ _ _ _ _ _ _ _ _ c.loop-r.invariant.0 (omega arith) c.compiling_at-c.ensures c.put_rule_at-place.ensures, c.put_rule_at-place.auto.out ∙ c.loop-r.invariant.1)
 
 pub returns : goal.returns
 returns c = search (rules, headed_all)

@@ -9,10 +9,12 @@ pub encode_rules-encoding-requires : goal.encode_rules-encoding-requires
 encode_rules-encoding-requires c = search (rules, encodable, c.put_head-place.ensures, c.requires)
 
 pub put_tail-requires : goal.put_tail-requires
-put_tail-requires c = search (rules, compiled, c.put_head-place.ensures, c.requires)
+put_tail-requires c = rw (c.new-tables.ensures.ops, c.new-tables.ensures.nums, c.new-tables.ensures.nodes) (search (rules, compiled, c.put_head-place.ensures, c.requires))
 
 pub shape_of-out : goal.shape_of-out
 shape_of-out c = search (rules, c.put_head-place.auto, c.put_plan-behind.auto, c.put_tail.auto)
 
 pub returns : goal.returns
-returns c = search (rules, book_listed, c.put_head-place.ensures, c.encode_rules-encoding.ensures, c.put_plan-behind.ensures, c.put_tail.ensures, c.requires)
+returns c =
+    book_listed _ _ _ _ _ _ _ _ _ _ _ _ c.requires _ _ _ _ _ _ c.put_head-place.ensures _ _ _ c.encode_rules-encoding.ensures c.put_plan-behind.ensures
+    (rw (c.new-tables.ensures.ops, c.new-tables.ensures.nums, c.new-tables.ensures.nodes) at c.put_tail.ensures)

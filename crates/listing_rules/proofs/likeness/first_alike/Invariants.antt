@@ -1,9 +1,5 @@
 use Rattle.listing_rules.proofs.Likes.{Passed}
-use Prim.Native.Nat.{◌-◌}
 use Rattle.listing_rules.proofs.likeness.first_alike.Given as goal
 
 abbrev pub invariant-loop-q : goal.invariant-loop-q
-invariant-loop-q l = Passed l.ops l.nums l.firsts l.counts l.nodes l.nfirsts l.ncounts l.refusals l.r l.q
-
-abbrev pub decreases-loop-q : goal.decreases-loop-q
-decreases-loop-q l = l.r - l.q
+invariant-loop-q l = Passed l.tables.formulas.ops.now l.tables.formulas.nums.now l.rules.firsts.now l.rules.counts.now l.tables.nodes.now l.rules.nfirsts.now l.rules.ncounts.now l.rules.refusals.now l.r l.q

@@ -2,8 +2,8 @@ use Rattle.listing_rules.proofs.Likes.{first_compiled, second_compiled, like_ref
 use borrow.Author.Rules.{rules}
 use Rattle.listing_rules.proofs.likeness.is_like.Goals as goal
 
-pub returns-then-refusals-q-ne0 : goal.returns-then-refusals-q-ne0
-returns-then-refusals-q-ne0 c = search (rules, like_refused)
+pub returns-then-rules-q-ne0 : goal.returns-then-rules-q-ne0
+returns-then-rules-q-ne0 c = search (rules, like_refused)
 
 pub same_nodes-requires : goal.same_nodes-requires
 same_nodes-requires c = search (rules, first_compiled, second_compiled)

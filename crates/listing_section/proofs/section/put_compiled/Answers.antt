@@ -5,8 +5,8 @@ use Rattle.listing_section.proofs.section.put_compiled.Goals as goal
 pub put_nodes-requires : goal.put_nodes-requires
 put_nodes-requires c = search (rules, nodes_ready)
 
-pub returns-in-Compiled : goal.returns-in-Compiled
-returns-in-Compiled c = search (rules, nodes_wrote)
+pub returns-in-Ok : goal.returns-in-Ok
+returns-in-Ok c = search (rules, nodes_wrote)
 
-pub returns-in-Refused : goal.returns-in-Refused
-returns-in-Refused c = search (rules, nodes_none)
+pub returns-in-Err : goal.returns-in-Err
+returns-in-Err c = search (rules, nodes_none)

@@ -2,14 +2,14 @@ use Rattle.listing_section.proofs.Sections.{owing_none, owing_refused, owes_aske
 use borrow.Author.Rules.{rules}
 use Rattle.listing_section.proofs.section.put_owing.Goals as goal
 
-pub returns-in-None : goal.returns-in-None
-returns-in-None c = search (rules, owing_none)
-
-pub returns-in-Refused : goal.returns-in-Refused
-returns-in-Refused c = search (rules, owing_refused)
-
 pub put_owes-requires : goal.put_owes-requires
-put_owes-requires c = search (rules, owes_asked)
+put_owes-requires c = owes_asked _ _ _ _ _ _ _ c.requires _ _ c.in-Ok-Some.is (rw c.in-Ok-Some.is at c.in-Ok-Some.field-0-is)
 
-pub returns-in-Parts : goal.returns-in-Parts
-returns-in-Parts c = search (rules, owes_wrote)
+pub returns-in-Ok-Some : goal.returns-in-Ok-Some
+returns-in-Ok-Some c = owes_wrote _ _ _ _ _ _ _ c.requires _ _ _ _ c.in-Ok-Some.is (rw c.in-Ok-Some.is at c.in-Ok-Some.field-0-is) c.put_owes.ensures
+
+pub returns-in-Ok-None : goal.returns-in-Ok-None
+returns-in-Ok-None c = owing_none _ _ _ _ _ _ _ c.requires _ _ c.in-Ok-None.is (rw c.in-Ok-None.is at c.in-Ok-None.field-0-is)
+
+pub returns-in-Err : goal.returns-in-Err
+returns-in-Err c = search (rules, owing_refused)

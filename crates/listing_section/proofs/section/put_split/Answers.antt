@@ -6,7 +6,7 @@ pub put_live-place-requires : goal.put_live-place-requires
 put_live-place-requires c = search (rules, live_ready)
 
 pub put_owing-requires : goal.put_owing-requires
-put_owing-requires c = search (rules, owing, c.split-answer.auto, c.requires)
+put_owing-requires c = search (rules, owing, c.requires)
 
 pub returns : goal.returns
 returns c = search (rules, split_wrote)

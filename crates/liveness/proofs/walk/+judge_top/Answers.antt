@@ -1,11 +1,12 @@
+use Rattle.std.proofs.lemmas.Result.{err_from_is_err_and}
 use Rattle.liveness.proofs.Judges.{judged_leaf, judged_not, judged_eventually, judged_live, judged_calm, judged_left, judged_two, judged_behind, judged_falls, until_left, until_two, until_behind}
 use Rattle.liveness.proofs.Words.{placed_next}
 use Rattle.formula.proofs.Places.{in_ops, falls_next}
 use borrow.Author.Rules.{rules}
 use Rattle.liveness.proofs.walk.+judge_top.Goals as goal
 
-pub bounds-ops-i : goal.bounds-ops-i
-bounds-ops-i t c = search (rules, in_ops)
+pub bounds-table-i : goal.bounds-table-i
+bounds-table-i t c = search (rules, in_ops)
 
 pub returns-then-op-lt-NOT : goal.returns-then-op-lt-NOT
 returns-then-op-lt-NOT t c = search (rules, judged_leaf)
@@ -43,14 +44,16 @@ judge_top-requires-then-op-lt-UNTIL t c = (search (rules, judged_falls), search 
 pub returns-then-op-lt-UNTIL : goal.returns-then-op-lt-UNTIL
 returns-then-op-lt-UNTIL t c = search (rules, judged_two)
 
-pub operand_at-first-requires : goal.operand_at-first-requires
-operand_at-first-requires t c = search (rules, placed_next)
-
-pub returns-in_default-first : goal.returns-in_default-first
-returns-in_default-first t c = search (rules, until_left)
-
 pub operand_at-requires-2 : goal.operand_at-requires-2
-operand_at-requires-2 t c = search (rules, until_behind)
+operand_at-requires-2 t c = search (rules, placed_next)
+
+pub returns-in_err-m : goal.returns-in_err-m
+returns-in_err-m t c =
+    let p = err_from_is_err_and c.from_residual.result c.from_residual.ensures.1 in
+    rw (p.1, p.2) (search (rules, until_left, c.in_err-m.was))
+
+pub operand_at-requires-3 : goal.operand_at-requires-3
+operand_at-requires-3 t c = search (rules, until_behind, c.in_ok-m.was)
 
 pub returns : goal.returns
-returns t c = search (rules, until_two)
+returns t c = search (rules, until_two, c.in_ok-m.was)

@@ -2,11 +2,11 @@ use Rattle.node_step.proofs.Checks.{says_true, says_value, signal_here}
 use borrow.Author.Rules.{rules}
 use Rattle.node_step.proofs.check.truth_of.Goals as goal
 
-pub returns-in_default : goal.returns-in_default
-returns-in_default c = search (rules, says_true)
+pub returns-in-True : goal.returns-in-True
+returns-in-True c = search (rules, says_true)
 
-pub value_at-v-requires : goal.value_at-v-requires
-value_at-v-requires c = search (rules, signal_here)
+pub value_at-requires : goal.value_at-requires
+value_at-requires c = search (rules, signal_here)
 
-pub returns : goal.returns
-returns c = search (rules, says_value)
+pub returns-in-At : goal.returns-in-At
+returns-in-At c = search (rules, says_value)

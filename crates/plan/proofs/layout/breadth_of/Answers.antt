@@ -1,4 +1,4 @@
-use Rattle.plan.proofs.Pieces.{pending_fits, breadth_fits, breadth_is}
+use Rattle.plan.proofs.Pieces.{breadth_fits, breadth_is, pending_fits}
 use borrow.Author.Rules.{rules}
 use Rattle.plan.proofs.layout.breadth_of.Goals as goal
 

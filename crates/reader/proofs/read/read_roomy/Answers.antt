@@ -1,15 +1,19 @@
+use mathlib.Core.Path.{◌≡◌}
+use Rattle.std.specs.Prelude.{Err}
 use Rattle.reader.proofs.Answers.{read_refused, read_fillable, read_slots_fillable, read_good}
 use borrow.Author.Rules.{rules}
 use Rattle.reader.proofs.read.read_roomy.Goals as goal
 
 pub fill-requires : goal.fill-requires
-fill-requires c = search (rules, read_fillable, c.requires.0, c.check-c.ensures)
+fill-requires c = search (rules, read_fillable)
 
 pub fill_slots-requires : goal.fill_slots-requires
-fill_slots-requires c = search (rules, read_slots_fillable, c.requires.1, c.check-c.ensures)
+fill_slots-requires c = search (rules, read_slots_fillable)
 
-pub returns-in-Refused : goal.returns-in-Refused
-returns-in-Refused c = search (rules, read_refused)
+pub returns-in_err-held : goal.returns-in_err-held
+returns-in_err-held c =
+    let e : c.from_residual.result ≡ Err c.in_err-held.field-0.0 = search rules in
+    rw e (read_refused _ _ _ c.requires _ c.check.ensures _ c.in_err-held.was)
 
-pub returns-in-Good : goal.returns-in-Good
-returns-in-Good c = search (rules, read_good, c.requires, c.check-c.ensures, c.fill.ensures, c.fill_slots.ensures)
+pub returns : goal.returns
+returns c = read_good _ _ _ c.requires _ c.check.ensures _ c.in_ok-held.was _ _ c.fill.ensures c.fill_slots.ensures

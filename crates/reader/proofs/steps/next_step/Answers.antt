@@ -11,8 +11,8 @@ returns-then-rest-n c = search (rules, next_unended)
 pub returns-in_default : goal.returns-in_default
 returns-in_default c = search (rules, next_none)
 
-pub returns-in_default-c : goal.returns-in_default-c
-returns-in_default-c c = search (rules, next_other)
+pub returns-in_default-content : goal.returns-in_default-content
+returns-in_default-content c = search (rules, next_other)
 
 pub returns : goal.returns
 returns c = search (rules, next_step_lem)

@@ -5,8 +5,8 @@ use Rattle.saving.proofs.save.save.Goals as goal
 pub save_fit-requires : goal.save_fit-requires
 save_fit-requires c = search (rules, savable)
 
-pub returns-then-refusal-eq0 : goal.returns-then-refusal-eq0
-returns-then-refusal-eq0 c = search (rules, saved_fits)
-
 pub returns : goal.returns
-returns c = search (rules, saved_refused)
+returns c = search (rules, saved_fits)
+
+pub returns-in-Some : goal.returns-in-Some
+returns-in-Some c = search (rules, saved_refused)

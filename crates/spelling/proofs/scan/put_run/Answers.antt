@@ -5,11 +5,11 @@ use Rattle.spelling.proofs.scan.put_run.Goals as goal
 pub loop-j-init : goal.loop-j-init
 loop-j-init c = search (rules, scan_first)
 
-pub bounds-ops-j : goal.bounds-ops-j
-bounds-ops-j c = search (rules, scan_in_ops)
+pub bounds-table-j : goal.bounds-table-j
+bounds-table-j c = search (rules, scan_in_ops)
 
-pub bounds-nums-j : goal.bounds-nums-j
-bounds-nums-j c = search (rules, scan_in_nums)
+pub bounds-table-j-in-loop-j : goal.bounds-table-j-in-loop-j
+bounds-table-j-in-loop-j c = search (rules, scan_in_nums)
 
 pub loop-j-preserved : goal.loop-j-preserved
 loop-j-preserved c = search (rules, scan_next)

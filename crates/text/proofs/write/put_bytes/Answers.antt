@@ -1,12 +1,9 @@
-use Rattle.text.proofs.Tapes.{begun_first, begun_next, begun_all}
+use Rattle.text.proofs.Tapes.{begun_first, begun_next}
 use borrow.Author.Rules.{rules}
 use Rattle.text.proofs.write.put_bytes.Goals as goal
 
-pub loop-i-init : goal.loop-i-init
-loop-i-init c = search (rules, begun_first)
+pub loop-b-init : goal.loop-b-init
+loop-b-init c = search (rules, begun_first)
 
-pub loop-i-preserved : goal.loop-i-preserved
-loop-i-preserved c = search (rules, begun_next)
-
-pub returns : goal.returns
-returns c = search (rules, begun_all)
+pub loop-b-preserved : goal.loop-b-preserved
+loop-b-preserved c = search (rules, begun_next)

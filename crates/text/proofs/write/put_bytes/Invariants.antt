@@ -1,13 +1,9 @@
 use mathlib.Core.Path.{◌≡◌}
-use Prim.Native.Nat.{◌-◌}
 use lib.ListN.{length}
 use Rattle.text.specs.Tape.{tape}
 use Rattle.text.proofs.Tapes.{Begun}
 use Rattle.text.proofs.write.put_bytes.Given as goal
 
-abbrev pub invariant-loop-i : goal.invariant-loop-i
-invariant-loop-i l =
-    Begun (tape l.initial.out l.at) l.s l.i (tape l.out l.place) × (length l.out ≡ length l.initial.out)
-
-abbrev pub decreases-loop-i : goal.decreases-loop-i
-decreases-loop-i l = length l.s - l.i
+abbrev pub invariant-loop-b : goal.invariant-loop-b
+invariant-loop-b l =
+    Begun (tape l.initial.out l.at) l.s l.b-index (tape l.out l.place) × (length l.out ≡ length l.initial.out)

@@ -1,4 +1,5 @@
 use Rattle.text.proofs.Tapes.{begun_first, word_next, word_all}
+use native.Mathlib.Omega.{arith}
 use borrow.Author.Rules.{rules}
 use Rattle.text.proofs.write.put_word.Goals as goal
 
@@ -7,7 +8,7 @@ loop-i-init c = search (rules, begun_first)
 
 pub loop-i-preserved : goal.loop-i-preserved
 loop-i-preserved c = (
-  word_next _ _ _ _ _ _ _ c.length-n.ensures c.letter.ensures c.loop-i.invariant.0 c.loop-i-test.true c.put_byte-place.ensures,
+  word_next _ _ _ _ _ _ _ c.length-n.ensures c.letter.ensures c.loop-i.invariant.0 (omega arith) c.put_byte-place.ensures,
   search rules,
 )
 

@@ -1,2 +1,0 @@
--- What reading standard input gives.
-pub mod Input

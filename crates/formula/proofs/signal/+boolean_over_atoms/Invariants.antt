@@ -1,5 +1,0 @@
-use Rattle.formula.specs.Signal.{signal_nodes}
-use Rattle.formula.proofs.signal.+boolean_over_atoms.Given as goal
-
-abbrev pub decreases-boolean_over_atoms : goal.decreases-boolean_over_atoms
-decreases-boolean_over_atoms l = signal_nodes l.ops.now l.nums.now l.i

@@ -1,0 +1,6 @@
+use Rattle.lent.proofs.Shaping.{Shaping}
+use Rattle.node_step.specs.Lists.{entries_of}
+use Rattle.lent.proofs.Frame.is_shaped.Given as goal
+
+abbrev pub invariant-loop-k : goal.invariant-loop-k
+invariant-loop-k l = Shaping l.nodes l.nfirst l.self.forms.now l.self.bounds.now (entries_of l.entries) l.n l.k

@@ -1,0 +1,2 @@
+-- What is known of a book that is read.
+pub mod Reading

@@ -1,0 +1,2 @@
+-- What a book in memory of its own holds.
+pub mod Opened

@@ -1,0 +1,103 @@
+// A book read into memory of its own, for the programs.
+#![tactic(auto)]
+
+ghost use Rattle.std.specs.Prelude.{◌≡◌, ◌<◌, get_or};
+ghost use Rattle.terms.specs.Limits.{book_rules};
+ghost use Rattle.opened.specs.Opened.{CompilesAt, Opens};
+
+use book::check::Refused;
+use compiler::compile_formula;
+use formula::table::FormulaTable;
+use reader::read::{Read, read_book};
+use result::Refusal;
+use terms::limit::{
+    BOOK_CELLS, BOOK_NODES, BOOK_RULES, BOOK_SLOTS, LABELS_ROOM, NAMES_ROOM, ROW_CELLS,
+};
+
+// The tables that `read_book` fills, and how much was read into them.
+#[derive(Clone, Copy)]
+pub struct Book {
+    pub read: Read,
+    pub labels: [u8; LABELS_ROOM],
+    pub lens: [usize; BOOK_RULES],
+    pub kinds: [u8; BOOK_RULES],
+    pub firsts: [usize; BOOK_RULES],
+    pub counts: [usize; BOOK_RULES],
+    pub ops: [u8; BOOK_NODES],
+    pub nums: [u64; BOOK_NODES],
+    pub names: [u8; NAMES_ROOM],
+    pub sizes: [usize; BOOK_SLOTS],
+    pub widths: [u64; BOOK_SLOTS],
+}
+
+impl Book {
+    // The formula table.
+    pub fn formulas(&self) -> FormulaTable
+        ensures ops { result.ops.now ≡ self.now.ops }
+        ensures nums { result.nums.now ≡ self.now.nums }
+    {
+        FormulaTable {
+            ops: &self.ops,
+            nums: &self.nums,
+        }
+    }
+
+    // Compiles rule r into the rows from its formula's own place on: it has no more nodes than its formula.
+    pub fn compile(&self, r: usize, nodes: &mut [u64; BOOK_CELLS]) -> Result<usize, Refusal>
+        requires { r < book_rules }
+        ensures { CompilesAt self.now.ops self.now.nums (get_or self.now.firsts r 0) (get_or self.now.counts r 0) nodes.old result nodes.new }
+    {
+        let first = self.firsts[r];
+        if BOOK_NODES < first {
+            return Err(Refusal::Unfit);
+        }
+        compile_formula(
+            &self.formulas(),
+            first,
+            self.counts[r],
+            &mut nodes[ROW_CELLS * first..],
+        )
+    }
+}
+
+// Reads a book.
+pub fn open_book(text: &[u8]) -> Result<Book, Refused>
+    ensures { Opens text.now result }
+{
+    let mut labels = [0u8; LABELS_ROOM];
+    let mut lens = [0usize; BOOK_RULES];
+    let mut kinds = [0u8; BOOK_RULES];
+    let mut firsts = [0usize; BOOK_RULES];
+    let mut counts = [0usize; BOOK_RULES];
+    let mut ops = [0u8; BOOK_NODES];
+    let mut nums = [0u64; BOOK_NODES];
+    let mut names = [0u8; NAMES_ROOM];
+    let mut sizes = [0usize; BOOK_SLOTS];
+    let mut widths = [0u64; BOOK_SLOTS];
+    let read = read_book(
+        text,
+        &mut labels,
+        &mut lens,
+        &mut kinds,
+        &mut firsts,
+        &mut counts,
+        &mut ops,
+        &mut nums,
+        &mut names,
+        &mut sizes,
+        &mut widths,
+    )?;
+    Ok(Book {
+        read,
+        labels,
+        lens,
+        kinds,
+        firsts,
+        counts,
+        ops,
+        nums,
+        names,
+        sizes,
+        widths,
+    })
+}

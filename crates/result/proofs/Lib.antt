@@ -1,0 +1,2 @@
+-- Laws of what a call tells.
+pub mod Told

@@ -1,5 +1,0 @@
-use Rattle.std.proofs.Common.{◌-◌}
-use Rattle.slots.proofs.show.show_alike.Given as goal
-
-abbrev pub decreases-loop-r : goal.decreases-loop-r
-decreases-loop-r g l = l.n - l.r
