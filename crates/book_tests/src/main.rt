@@ -7,6 +7,7 @@ use input::{TEXT_ROOM, read_full};
 use letters::{length, letter};
 use reader::read::{Read, read_book};
 use reader::steps::next_step;
+use reader::tables::{BookTables, SlotTables};
 use std::rt::Files;
 use std::{fs, io, str};
 use terms::limit::{BOOK_NODES, BOOK_RULES, BOOK_SLOTS, LABEL_BYTES, LABELS_ROOM, NAMES_ROOM};
@@ -197,37 +198,41 @@ fn read_text(rt: &impl Print, text: &[u8]) -> io::Result<()> {
         sizes: [7; BOOK_SLOTS],
         widths: [7; 34],
     };
-    let answer = read_book(
-        text,
-        &mut t.labels,
-        &mut t.lens,
-        &mut t.kinds,
-        &mut t.firsts,
-        &mut t.counts,
-        &mut t.ops,
-        &mut t.nums,
-        &mut t.names,
-        &mut t.sizes,
-        &mut t.widths,
-    );
+    let mut tables = BookTables {
+        labels: &mut t.labels,
+        lens: &mut t.lens,
+        kinds: &mut t.kinds,
+        firsts: &mut t.firsts,
+        counts: &mut t.counts,
+        ops: &mut t.ops,
+        nums: &mut t.nums,
+    };
+    let mut slots = SlotTables {
+        names: &mut t.names,
+        lens: &mut t.sizes,
+        widths: &mut t.widths,
+    };
+    let answer = read_book(text, &mut tables, &mut slots);
     report(rt, text, &t, answer)
 }
 
 // Tables that are too short: refusal 1, before 3.
 fn read_short(rt: &impl Print, text: &[u8]) -> io::Result<()> {
-    let answer = read_book(
-        text,
-        &mut [46; LABELS_ROOM],
-        &mut [7; BOOK_RULES],
-        &mut [7; BOOK_RULES],
-        &mut [7; BOOK_RULES],
-        &mut [7; 63],
-        &mut [7; BOOK_NODES],
-        &mut [7; BOOK_NODES],
-        &mut [46; NAMES_ROOM],
-        &mut [7; BOOK_SLOTS],
-        &mut [7; BOOK_SLOTS],
-    );
+    let mut tables = BookTables {
+        labels: &mut [46; LABELS_ROOM],
+        lens: &mut [7; BOOK_RULES],
+        kinds: &mut [7; BOOK_RULES],
+        firsts: &mut [7; BOOK_RULES],
+        counts: &mut [7; 63],
+        ops: &mut [7; BOOK_NODES],
+        nums: &mut [7; BOOK_NODES],
+    };
+    let mut slots = SlotTables {
+        names: &mut [46; NAMES_ROOM],
+        lens: &mut [7; BOOK_SLOTS],
+        widths: &mut [7; BOOK_SLOTS],
+    };
+    let answer = read_book(text, &mut tables, &mut slots);
     put(rt, b"short tables")?;
     match answer {
         Err(refused) => show_refused(rt, refused)?,

@@ -6,6 +6,7 @@ use crate::tell::{say, tell_count, tell_line, tell_read};
 use listing::whole::list_book;
 use reader::read::read_book;
 use reader::steps::next_step;
+use reader::tables::{BookTables, SlotTables};
 
 // Reads a book into lent tables.
 #[unsafe(no_mangle)]
@@ -29,9 +30,21 @@ pub extern "C" fn cavewatch_read_book(
         (columns labels.new lens.new kinds.new firsts.new counts.new ops.new
         nums.new) (slot_columns names.new sizes.new widths.new) found.new }
 {
-    let answer = read_book(
-        text, labels, lens, kinds, firsts, counts, ops, nums, names, sizes, widths,
-    );
+    let mut tables = BookTables {
+        labels,
+        lens,
+        kinds,
+        firsts,
+        counts,
+        ops,
+        nums,
+    };
+    let mut slots = SlotTables {
+        names,
+        lens: sizes,
+        widths,
+    };
+    let answer = read_book(text, &mut tables, &mut slots);
     say(tell_read(answer), found)
 }
 

@@ -18,6 +18,7 @@ use listing_rules::place::encode_rules;
 use monitor::table::Tables;
 use plan::layout::RuleList;
 use reader::read::{Read, read_book};
+use reader::tables::{BookTables, SlotTables};
 use result::Refusal;
 use terms::limit::{
     BOOK_CELLS, BOOK_NODES, BOOK_RULES, BOOK_SLOTS, LABELS_ROOM, LISTING_BYTES, NAMES_ROOM,
@@ -125,19 +126,21 @@ fn list_text(text: &[u8], out: &mut [u8]) -> usize
     let mut names: [u8; NAMES_ROOM] = [0; NAMES_ROOM];
     let mut sizes: [usize; BOOK_SLOTS] = [0; BOOK_SLOTS];
     let mut widths: [u64; BOOK_SLOTS] = [0; BOOK_SLOTS];
-    let answer = read_book(
-        text,
-        &mut labels,
-        &mut lens,
-        &mut kinds,
-        &mut firsts,
-        &mut counts,
-        &mut ops,
-        &mut nums,
-        &mut names,
-        &mut sizes,
-        &mut widths,
-    );
+    let mut tables = BookTables {
+        labels: &mut labels,
+        lens: &mut lens,
+        kinds: &mut kinds,
+        firsts: &mut firsts,
+        counts: &mut counts,
+        ops: &mut ops,
+        nums: &mut nums,
+    };
+    let mut slots = SlotTables {
+        names: &mut names,
+        lens: &mut sizes,
+        widths: &mut widths,
+    };
+    let answer = read_book(text, &mut tables, &mut slots);
     let formulas = FormulaTable {
         ops: &ops,
         nums: &nums,

@@ -12,9 +12,11 @@ use Rattle.line.specs.Text.{lines}
 use Rattle.line.specs.Line.{parse}
 use Rattle.book.specs.declared.check.Refused.{Refused}
 use Rattle.book.specs.Book.{Book, empty, whole, fault, add_line, read_on, accepted, refused, read}
-use Rattle.reader.specs.BookTables.{BookTables, SlotTables, roomy, roomy_slots, read_into}
+use Rattle.reader.specs.BookTables.{BookTables, SlotTables, columns, slot_columns, roomy, roomy_slots, read_into}
 use Rattle.reader.specs.Answer.{Reads}
 use Rattle.reader.specs.declared.read.Read.{Read}
+use Rattle.opened.specs.declared.Book.{Book as Memory}
+use Rattle.opened.specs.Opened.{blank, blank_slots, Opened}
 use Rattle.reader.proofs.Answers.{read_inv}
 use Rattle.reader.proofs.Runs.{accepted_inj, accepted_lines, unless_none}
 use Rattle.reader.proofs.Sounds.{Sound, sound_empty, sound_add}
@@ -44,11 +46,17 @@ the_text text t u b e = go (roomy t) (roomy_slots u) e
     go false n e = not_accepted e
 
 module _ (text : List ℕ) (t : BookTables) (u : SlotTables) (t' : BookTables) (u' : SlotTables) (r : Result Read Refused) (a : Read) (p : Reads text t u r t' u') (e : r ≡ Ok a) where
-  pub reads_ok : Reads text t u (Ok a) t' u'
+  reads_ok : Reads text t u (Ok a) t' u'
   reads_ok = subst (λ (x : Result Read Refused). Reads text t u x t' u') e p
 
-  pub few_rules : a.rules ≤ book_rules
+  few_rules : a.rules ≤ book_rules
   few_rules =
       let inv = read_inv text t u t' u' a reads_ok in
       let sound : Sound inv.book = sound_on empty inv.book 0 (lines text) sound_empty (accepted_lines text inv.book (the_text text t u inv.book inv.is)) in
       omega (arith, inv.counted.rules, sound.few)
+
+-- the book that memory of its own then holds
+pub opened : (text : List ℕ) (b : Memory) (r : Result Read Refused)
+    → Reads text blank blank_slots r (columns b.labels b.lens b.kinds b.firsts b.counts b.ops b.nums) (slot_columns b.names b.sizes b.widths) → r ≡ Ok b.read
+    → Opened text b
+opened text b r p e = record { reads = reads_ok text blank blank_slots _ _ r b.read p e; few = few_rules text blank blank_slots _ _ r b.read p e }

@@ -9,6 +9,7 @@ use book::check::Refused;
 use compiler::compile_formula;
 use formula::table::FormulaTable;
 use reader::read::{Read, read_book};
+use reader::tables::{BookTables, SlotTables};
 use result::Refusal;
 use terms::limit::{
     BOOK_CELLS, BOOK_NODES, BOOK_RULES, BOOK_SLOTS, LABELS_ROOM, NAMES_ROOM, ROW_CELLS,
@@ -74,19 +75,21 @@ pub fn open_book(text: &[u8]) -> Result<Book, Refused>
     let mut names = [0u8; NAMES_ROOM];
     let mut sizes = [0usize; BOOK_SLOTS];
     let mut widths = [0u64; BOOK_SLOTS];
-    let read = read_book(
-        text,
-        &mut labels,
-        &mut lens,
-        &mut kinds,
-        &mut firsts,
-        &mut counts,
-        &mut ops,
-        &mut nums,
-        &mut names,
-        &mut sizes,
-        &mut widths,
-    )?;
+    let mut tables = BookTables {
+        labels: &mut labels,
+        lens: &mut lens,
+        kinds: &mut kinds,
+        firsts: &mut firsts,
+        counts: &mut counts,
+        ops: &mut ops,
+        nums: &mut nums,
+    };
+    let mut slots = SlotTables {
+        names: &mut names,
+        lens: &mut sizes,
+        widths: &mut widths,
+    };
+    let read = read_book(text, &mut tables, &mut slots)?;
     Ok(Book {
         read,
         labels,

@@ -69,22 +69,22 @@ module _ (line : List ℕ) (l : Answer) (is : LineIs line l) where
         pub line_rule_room : LineRoom line (columns labels lens kinds firsts counts ops nums) f → RuleRoom labels lens kinds firsts counts label f
         line_rule_room m = m.room (rule label v) (line_held ∙ ap right rule_held)
 
-        pub line_rule_put : (labels' lens' kinds' firsts' counts' : List ℕ) (r : Tally)
-            → RulePut labels lens kinds firsts counts label v f labels' lens' kinds' firsts' counts' r
-            → LinePut line (columns labels lens kinds firsts counts ops nums) f (columns labels' lens' kinds' firsts' counts' ops nums) r
-        line_rule_put labels' lens' kinds' firsts' counts' r u =
-            only (columns labels lens kinds firsts counts ops nums) f (columns labels' lens' kinds' firsts' counts' ops nums) r
-            (subst (λ (y : Content). LeftBy y (columns labels lens kinds firsts counts ops nums) f (columns labels' lens' kinds' firsts' counts' ops nums) r) (sym rule_held)
-            (record { put = u; ops_kept = refl; nums_kept = refl }))
+        pub line_rule_put : (labels' lens' kinds' firsts' counts' ops' nums' : List ℕ) (r : Tally)
+            → RulePut labels lens kinds firsts counts label v f labels' lens' kinds' firsts' counts' r → (ops' ≡ ops) × (nums' ≡ nums)
+            → LinePut line (columns labels lens kinds firsts counts ops nums) f (columns labels' lens' kinds' firsts' counts' ops' nums') r
+        line_rule_put labels' lens' kinds' firsts' counts' ops' nums' r u q =
+            only (columns labels lens kinds firsts counts ops nums) f (columns labels' lens' kinds' firsts' counts' ops' nums') r
+            (subst (λ (y : Content). LeftBy y (columns labels lens kinds firsts counts ops nums) f (columns labels' lens' kinds' firsts' counts' ops' nums') r) (sym rule_held)
+            (record { put = u; ops_kept = q.0; nums_kept = q.1 }))
 
     module _ (op num : ℕ) (k : x ≡ contents.Node op num) (labels lens kinds firsts counts ops nums : List ℕ) (f : Tally) where
       pub line_node_room : LineRoom line (columns labels lens kinds firsts counts ops nums) f → NodeRoom counts ops nums f
       line_node_room m = m.room (node op num) (line_held ∙ ap (λ (y : held-type.Content). right (held line y)) k)
 
-      pub line_node_put : (counts' ops' nums' : List ℕ) (r : Tally)
-          → NodePut counts ops nums op num f counts' ops' nums' r
-          → LinePut line (columns labels lens kinds firsts counts ops nums) f (columns labels lens kinds firsts counts' ops' nums') r
-      line_node_put counts' ops' nums' r u =
-          only (columns labels lens kinds firsts counts ops nums) f (columns labels lens kinds firsts counts' ops' nums') r
-          (subst (λ (y : held-type.Content). LeftBy (held line y) (columns labels lens kinds firsts counts ops nums) f (columns labels lens kinds firsts counts' ops' nums') r) (sym k)
-          (record { put = u; labels_kept = refl; lens_kept = refl; kinds_kept = refl; firsts_kept = refl }))
+      pub line_node_put : (labels' lens' kinds' firsts' counts' ops' nums' : List ℕ) (r : Tally)
+          → NodePut counts ops nums op num f counts' ops' nums' r → (labels' ≡ labels) × (lens' ≡ lens) × (kinds' ≡ kinds) × (firsts' ≡ firsts)
+          → LinePut line (columns labels lens kinds firsts counts ops nums) f (columns labels' lens' kinds' firsts' counts' ops' nums') r
+      line_node_put labels' lens' kinds' firsts' counts' ops' nums' r u q =
+          only (columns labels lens kinds firsts counts ops nums) f (columns labels' lens' kinds' firsts' counts' ops' nums') r
+          (subst (λ (y : held-type.Content). LeftBy (held line y) (columns labels lens kinds firsts counts ops nums) f (columns labels' lens' kinds' firsts' counts' ops' nums') r) (sym k)
+          (record { put = u; labels_kept = q.0; lens_kept = q.1; kinds_kept = q.2; firsts_kept = q.3 }))

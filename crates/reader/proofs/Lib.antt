@@ -4,6 +4,7 @@ pub mod Sounds
 pub mod Columns
 pub mod Runs
 pub mod Answers
+pub mod Lent
 pub mod BookSteps
 pub mod Reaching
 pub mod Loops

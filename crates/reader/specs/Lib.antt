@@ -3,3 +3,4 @@ pub mod BookTables
 pub mod FillingPass
 pub mod Answer
 pub mod Steps
+pub mod Lists

@@ -1,8 +1,9 @@
 // The filling pass over a book that is accepted: the rule list and the formula table, a line at a time.
 ghost use Rattle.std.specs.Prelude.{◌≡◌, ◌+◌, ◌*◌, ◌≤◌, ◌<◌, length};
-ghost use Rattle.reader.specs.BookTables.{columns};
+ghost use Rattle.reader.specs.Lists.{tables_in, SameTables};
 ghost use Rattle.reader.specs.FillingPass.{placed, RuleRoom, RulePut, NodeRoom, NodePut, LineRoom, LinePut, Fillable, FilledTables};
 
+use crate::tables::BookTables;
 use line::line::{Content, read_line};
 use line::text::{find, past, upto};
 use terms::limit::LABEL_BYTES;
@@ -24,28 +25,21 @@ pub(crate) fn copy_in(dst: &mut [u8], at: usize, src: &[u8])
 }
 
 // A rule's head at its place of the rule list.
-fn put_rule(
-    labels: &mut [u8],
-    lens: &mut [usize],
-    kinds: &mut [u8],
-    firsts: &mut [usize],
-    counts: &mut [usize],
-    label: &[u8],
-    kind: u8,
-    f: Tally,
-) -> Tally
-    requires { RuleRoom labels.old lens.old kinds.old firsts.old counts.old label.now f }
-    ensures { RulePut labels.old lens.old kinds.old firsts.old counts.old
-        label.now kind f labels.new lens.new kinds.new firsts.new counts.new result }
+fn put_rule(tables: &mut BookTables, label: &[u8], kind: u8, f: Tally) -> Tally
+    requires { RuleRoom tables.old.labels.now tables.old.lens.now tables.old.kinds.now tables.old.firsts.now tables.old.counts.now label.now f }
+    ensures put { RulePut tables.old.labels.now tables.old.lens.now tables.old.kinds.now tables.old.firsts.now tables.old.counts.now
+        label.now kind f tables.new.labels.now tables.new.lens.now tables.new.kinds.now tables.new.firsts.now tables.new.counts.now result }
+    ensures rest { (tables.new.ops.now ≡ tables.old.ops.now) × (tables.new.nums.now ≡ tables.old.nums.now) }
+    ensures same { SameTables tables.old tables.new }
 {
     let r = f.rules;
     let n = f.nodes;
     let len = label.len();
-    copy_in(labels, LABEL_BYTES * r, label);
-    lens[r] = len;
-    kinds[r] = kind;
-    firsts[r] = n;
-    counts[r] = 0;
+    copy_in(tables.labels, LABEL_BYTES * r, label);
+    tables.lens[r] = len;
+    tables.kinds[r] = kind;
+    tables.firsts[r] = n;
+    tables.counts[r] = 0;
     Tally {
         rules: r + 1,
         own: 0,
@@ -54,25 +48,21 @@ fn put_rule(
 }
 
 // A node at its place of the formula table, counted in its rule.
-fn put_node(
-    counts: &mut [usize],
-    ops: &mut [u8],
-    nums: &mut [u64],
-    op: u8,
-    num: u64,
-    f: Tally,
-) -> Tally
-    requires { NodeRoom counts.old ops.old nums.old f }
-    ensures { NodePut counts.old ops.old nums.old op num f counts.new ops.new nums.new result }
+fn put_node(tables: &mut BookTables, op: u8, num: u64, f: Tally) -> Tally
+    requires { NodeRoom tables.old.counts.now tables.old.ops.now tables.old.nums.now f }
+    ensures put { NodePut tables.old.counts.now tables.old.ops.now tables.old.nums.now op num f tables.new.counts.now tables.new.ops.now tables.new.nums.now result }
+    ensures rest { (tables.new.labels.now ≡ tables.old.labels.now) × (tables.new.lens.now ≡ tables.old.lens.now) × (tables.new.kinds.now ≡ tables.old.kinds.now)
+        × (tables.new.firsts.now ≡ tables.old.firsts.now) }
+    ensures same { SameTables tables.old tables.new }
 {
     let r = f.rules;
     let n = f.nodes;
     let own = f.own;
     let last = r - 1;
     let more = own + 1;
-    counts[last] = more;
-    ops[n] = op;
-    nums[n] = num;
+    tables.counts[last] = more;
+    tables.ops[n] = op;
+    tables.nums[n] = num;
     Tally {
         nodes: n + 1,
         own: more,
@@ -81,22 +71,11 @@ fn put_node(
 }
 
 // One line.
-fn put_line(
-    line: &[u8],
-    labels: &mut [u8],
-    lens: &mut [usize],
-    kinds: &mut [u8],
-    firsts: &mut [usize],
-    counts: &mut [usize],
-    ops: &mut [u8],
-    nums: &mut [u64],
-    f: Tally,
-) -> Tally
-    requires { LineRoom line.now (columns labels.old lens.old kinds.old firsts.old counts.old ops.old nums.old) f }
-    ensures { LinePut line.now
-        (columns labels.old lens.old kinds.old firsts.old counts.old ops.old
-        nums.old) f (columns labels.new lens.new kinds.new firsts.new counts.new
-        ops.new nums.new) result }
+fn put_line(line: &[u8], tables: &mut BookTables, f: Tally) -> Tally
+    requires { LineRoom line.now (tables_in tables.old) f }
+    ensures put { LinePut line.now
+        (tables_in tables.old) f (tables_in tables.new) result }
+    ensures same { SameTables tables.old tables.new }
 {
     let Ok(content) = read_line(line) else {
         return f;
@@ -105,18 +84,9 @@ fn put_line(
         Content::Rule { start, len, kind } => {
             let rest = past(line, start);
             let label = upto(rest, len);
-            put_rule(
-                labels,
-                lens,
-                kinds,
-                firsts,
-                counts,
-                label,
-                u8::from(kind),
-                f,
-            )
+            put_rule(tables, label, u8::from(kind), f)
         }
-        Content::Node { op, num } => put_node(counts, ops, nums, op, num, f),
+        Content::Node { op, num } => put_node(tables, op, num, f),
         Content::Step { .. } => f,
         Content::States { .. } => f,
         Content::Slot { .. } => f,
@@ -124,22 +94,11 @@ fn put_line(
 }
 
 // All lines before the step lines, which begin at `head`.
-pub(crate) fn fill(
-    text: &[u8],
-    head: usize,
-    labels: &mut [u8],
-    lens: &mut [usize],
-    kinds: &mut [u8],
-    firsts: &mut [usize],
-    counts: &mut [usize],
-    ops: &mut [u8],
-    nums: &mut [u64],
-)
-    requires { Fillable text.now head (columns labels.old lens.old kinds.old firsts.old counts.old ops.old nums.old) }
-    ensures { FilledTables text.now
-        (columns labels.old lens.old kinds.old firsts.old counts.old ops.old
-        nums.old) (columns labels.new lens.new kinds.new firsts.new counts.new
-        ops.new nums.new) }
+pub(crate) fn fill(text: &[u8], head: usize, tables: &mut BookTables)
+    requires { Fillable text.now head (tables_in tables.old) }
+    ensures put { FilledTables text.now
+        (tables_in tables.old) (tables_in tables.new) }
+    ensures same { SameTables tables.old tables.new }
 {
     let mut f = Tally {
         rules: 0,
@@ -152,7 +111,7 @@ pub(crate) fn fill(
         let rest = past(text, at);
         let n = find(rest, 10);
         let line = upto(rest, n);
-        f = put_line(line, labels, lens, kinds, firsts, counts, ops, nums, f);
+        f = put_line(line, tables, f);
         at += n + 1;
     }
 }

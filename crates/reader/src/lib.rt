@@ -5,3 +5,4 @@ pub mod fill;
 pub mod read;
 pub mod slots;
 pub mod steps;
+pub mod tables;

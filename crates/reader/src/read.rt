@@ -1,13 +1,14 @@
 // Reading a book: the check, then the filling pass. Nothing is written unless the book is accepted.
 ghost use Rattle.std.specs.Prelude.{◌≡◌, ◌&&◌};
-ghost use Rattle.reader.specs.BookTables.{columns, slot_columns, roomy, roomy_slots};
+ghost use Rattle.reader.specs.BookTables.{roomy, roomy_slots};
+ghost use Rattle.reader.specs.Lists.{tables_in, slots_in, SameTables, SameSlots};
 ghost use Rattle.reader.specs.Answer.{Roomy, RoomySlots, Reads};
 
 use crate::fill::fill;
 use crate::slots::fill_slots;
+use crate::tables::{BookTables, SlotTables};
 use book::check::{Refused, check};
 use result::Refusal;
-use terms::limit::{BOOK_NODES, BOOK_RULES, BOOK_SLOTS, LABELS_ROOM, NAMES_ROOM};
 
 // How much was read, where the step lines begin, and the count of states.
 #[derive(Clone, Copy, Debug, PartialEq, Eq)]
@@ -20,32 +21,15 @@ pub struct Read {
 }
 
 // Into tables with room.
-fn read_roomy(
-    text: &[u8],
-    labels: &mut [u8],
-    lens: &mut [usize],
-    kinds: &mut [u8],
-    firsts: &mut [usize],
-    counts: &mut [usize],
-    ops: &mut [u8],
-    nums: &mut [u64],
-    names: &mut [u8],
-    sizes: &mut [usize],
-    widths: &mut [u64],
-) -> Result<Read, Refused>
-    requires { Roomy (columns labels.old lens.old kinds.old firsts.old counts.old ops.old nums.old)
-        × RoomySlots (slot_columns names.old sizes.old widths.old) }
-    ensures { Reads text.now
-        (columns labels.old lens.old kinds.old firsts.old counts.old ops.old
-        nums.old) (slot_columns names.old sizes.old widths.old) result
-        (columns labels.new lens.new kinds.new firsts.new counts.new
-        ops.new nums.new) (slot_columns names.new sizes.new widths.new) }
+fn read_roomy(text: &[u8], tables: &mut BookTables, slots: &mut SlotTables) -> Result<Read, Refused>
+    requires { Roomy (tables_in tables.old) × RoomySlots (slots_in slots.old) }
+    ensures read { Reads text.now (tables_in tables.old) (slots_in slots.old) result (tables_in tables.new) (slots_in slots.new) }
+    ensures same_tables { SameTables tables.old tables.new }
+    ensures same_slots { SameSlots slots.old slots.new }
 {
     let held = check(text)?;
-    fill(
-        text, held.head, labels, lens, kinds, firsts, counts, ops, nums,
-    );
-    fill_slots(text, held.slots, names, sizes, widths);
+    fill(text, held.head, tables);
+    fill_slots(text, held.slots, slots);
     Ok(Read {
         rules: held.rules,
         nodes: held.nodes,
@@ -56,64 +40,27 @@ fn read_roomy(
 }
 
 // Whether every table has its room.
-#[tactic(auto, unfolding(crate::specs::BookTables::roomy, crate::specs::BookTables::roomy_slots))]
-fn is_roomy(
-    labels: &[u8],
-    lens: &[usize],
-    kinds: &[u8],
-    firsts: &[usize],
-    counts: &[usize],
-    ops: &[u8],
-    nums: &[u64],
-    names: &[u8],
-    sizes: &[usize],
-    widths: &[u64],
-) -> bool
-    ensures { result ≡
-        (roomy (columns labels.now lens.now kinds.now firsts.now counts.now ops.now nums.now)
-        && roomy_slots (slot_columns names.now sizes.now widths.now)) }
+fn is_roomy(tables: &BookTables, slots: &SlotTables) -> bool
+    ensures { result ≡ (roomy (tables_in tables.now) && roomy_slots (slots_in slots.now)) }
 {
-    LABELS_ROOM <= labels.len()
-        && BOOK_RULES <= lens.len()
-        && BOOK_RULES <= kinds.len()
-        && BOOK_RULES <= firsts.len()
-        && BOOK_RULES <= counts.len()
-        && BOOK_NODES <= ops.len()
-        && BOOK_NODES <= nums.len()
-        && NAMES_ROOM <= names.len()
-        && BOOK_SLOTS <= sizes.len()
-        && BOOK_SLOTS <= widths.len()
+    tables.is_roomy() && slots.is_roomy()
 }
 
 // The entry point: a book into lent tables.
 pub fn read_book(
     text: &[u8],
-    labels: &mut [u8],
-    lens: &mut [usize],
-    kinds: &mut [u8],
-    firsts: &mut [usize],
-    counts: &mut [usize],
-    ops: &mut [u8],
-    nums: &mut [u64],
-    names: &mut [u8],
-    sizes: &mut [usize],
-    widths: &mut [u64],
+    tables: &mut BookTables,
+    slots: &mut SlotTables,
 ) -> Result<Read, Refused>
-    ensures { Reads text.now
-        (columns labels.old lens.old kinds.old firsts.old counts.old ops.old
-        nums.old) (slot_columns names.old sizes.old widths.old) result
-        (columns labels.new lens.new kinds.new firsts.new counts.new
-        ops.new nums.new) (slot_columns names.new sizes.new widths.new) }
+    ensures read { Reads text.now (tables_in tables.old) (slots_in slots.old) result (tables_in tables.new) (slots_in slots.new) }
+    ensures same_tables { SameTables tables.old tables.new }
+    ensures same_slots { SameSlots slots.old slots.new }
 {
-    if !is_roomy(
-        labels, lens, kinds, firsts, counts, ops, nums, names, sizes, widths,
-    ) {
+    if !is_roomy(tables, slots) {
         return Err(Refused {
             refusal: Refusal::Short,
             line: 0,
         });
     }
-    read_roomy(
-        text, labels, lens, kinds, firsts, counts, ops, nums, names, sizes, widths,
-    )
+    read_roomy(text, tables, slots)
 }

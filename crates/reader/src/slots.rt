@@ -1,42 +1,32 @@
 // The slots of a book that is accepted, filled in a pass of their own over its opening lines.
-ghost use Rattle.reader.specs.BookTables.{slot_columns};
+ghost use Rattle.reader.specs.Lists.{slots_in, SameSlots};
 ghost use Rattle.reader.specs.FillingPass.{SlotRoom, SlotPut, SlotLineRoom, SlotLinePut, SlotsFillable, FilledSlots};
 
 use crate::fill::copy_in;
+use crate::tables::SlotTables;
 use line::line::{Content, read_line};
 use line::text::{find, past, upto};
 use terms::limit::LABEL_BYTES;
 
 // A slot at its place of the slot list.
-fn put_slot(
-    names: &mut [u8],
-    lens: &mut [usize],
-    widths: &mut [u64],
-    name: &[u8],
-    width: u64,
-    k: usize,
-)
-    requires { SlotRoom names.old lens.old widths.old name.now k }
-    ensures { SlotPut names.old lens.old widths.old name.now width k
-        names.new lens.new widths.new }
+fn put_slot(tables: &mut SlotTables, name: &[u8], width: u64, k: usize)
+    requires { SlotRoom tables.old.names.now tables.old.lens.now tables.old.widths.now name.now k }
+    ensures put { SlotPut tables.old.names.now tables.old.lens.now tables.old.widths.now name.now width k
+        tables.new.names.now tables.new.lens.now tables.new.widths.now }
+    ensures same { SameSlots tables.old tables.new }
 {
     let len = name.len();
-    copy_in(names, LABEL_BYTES * k, name);
-    lens[k] = len;
-    widths[k] = width;
+    copy_in(tables.names, LABEL_BYTES * k, name);
+    tables.lens[k] = len;
+    tables.widths[k] = width;
 }
 
 // One line behind k slots; how many there are then.
-fn put_opening(
-    line: &[u8],
-    names: &mut [u8],
-    lens: &mut [usize],
-    widths: &mut [u64],
-    k: usize,
-) -> usize
-    requires { SlotLineRoom line.now (slot_columns names.old lens.old widths.old) k }
-    ensures { SlotLinePut line.now (slot_columns names.old lens.old widths.old) k
-        (slot_columns names.new lens.new widths.new) result }
+fn put_opening(line: &[u8], tables: &mut SlotTables, k: usize) -> usize
+    requires { SlotLineRoom line.now (slots_in tables.old) k }
+    ensures put { SlotLinePut line.now (slots_in tables.old) k
+        (slots_in tables.new) result }
+    ensures same { SameSlots tables.old tables.new }
 {
     let Ok(content) = read_line(line) else {
         return k;
@@ -46,21 +36,16 @@ fn put_opening(
     };
     let rest = past(line, start);
     let name = upto(rest, len);
-    put_slot(names, lens, widths, name, width, k);
+    put_slot(tables, name, width, k);
     k + 1
 }
 
 // The lines up to the last slot.
-pub(crate) fn fill_slots(
-    text: &[u8],
-    slots: usize,
-    names: &mut [u8],
-    lens: &mut [usize],
-    widths: &mut [u64],
-)
-    requires { SlotsFillable text.now slots (slot_columns names.old lens.old widths.old) }
-    ensures { FilledSlots text.now (slot_columns names.old lens.old widths.old)
-        (slot_columns names.new lens.new widths.new) }
+pub(crate) fn fill_slots(text: &[u8], slots: usize, tables: &mut SlotTables)
+    requires { SlotsFillable text.now slots (slots_in tables.old) }
+    ensures put { FilledSlots text.now (slots_in tables.old)
+        (slots_in tables.new) }
+    ensures same { SameSlots tables.old tables.new }
 {
     let mut k: usize = 0;
     let mut at: usize = 0;
@@ -69,7 +54,7 @@ pub(crate) fn fill_slots(
         let rest = past(text, at);
         let n = find(rest, 10);
         let line = upto(rest, n);
-        k = put_opening(line, names, lens, widths, k);
+        k = put_opening(line, tables, k);
         at += n + 1;
     }
 }

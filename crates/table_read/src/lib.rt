@@ -10,6 +10,7 @@ ghost use Rattle.reader.specs.BookTables.{columns, slot_columns};
 use book::check::Refused;
 use node_table::{Columns, FormulaNode, pack};
 use reader::read::{Read, read_book};
+use reader::tables::{BookTables, SlotTables};
 use result::Refusal;
 use terms::limit::BOOK_NODES;
 
@@ -47,9 +48,21 @@ fn read_columns(
     }
     let mut ops = [0u8; BOOK_NODES];
     let mut nums = [0u64; BOOK_NODES];
-    let read = read_book(
-        text, labels, lens, kinds, firsts, counts, &mut ops, &mut nums, names, sizes, widths,
-    )?;
+    let mut tables = BookTables {
+        labels,
+        lens,
+        kinds,
+        firsts,
+        counts,
+        ops: &mut ops,
+        nums: &mut nums,
+    };
+    let mut slots = SlotTables {
+        names,
+        lens: sizes,
+        widths,
+    };
+    let read = read_book(text, &mut tables, &mut slots)?;
     let columns = Columns {
         count: read.nodes,
         ops,

@@ -1,8 +1,11 @@
-use Rattle.opened.proofs.Reading.{reads_ok, few_rules}
+use borrow.Author.Rules.{rules}
+use Rattle.reader.proofs.Lent.{reads_lent}
+use Rattle.opened.proofs.Reading.{opened}
 use Rattle.opened.proofs.open_book.Goals as goal
 
 pub returns : goal.returns
-returns c = record {
-  reads = reads_ok _ _ _ _ _ _ _ c.read_book.ensures c.in_ok-read.was;
-  few = few_rules _ _ _ _ _ _ _ c.read_book.ensures c.in_ok-read.was;
-}
+returns c =
+    opened _ _ _
+    (reads_lent _ _ _ _ _ _ c.read_book.ensures.read _ _ _ _ _ _ _ _ _ _
+    (search rules) (search rules) (search rules) (search rules) (search rules) (search rules) (search rules) (search rules) (search rules) (search rules))
+    c.in_ok-read.was

@@ -5,8 +5,8 @@ use Rattle.reader.proofs.slots.put_opening.Goals as goal
 pub returns-in_default : goal.returns-in_default
 returns-in_default c = search (rules, slot_none)
 
-pub returns-in_default-content : goal.returns-in_default-content
-returns-in_default-content c = slot_other _ _ c.read_line.ensures _ c.in-Ok.is _ _ c.in_default-content.not-Slot
+pub returns-in_default-content-clause-put : goal.returns-in_default-content-clause-put
+returns-in_default-content-clause-put c = slot_other _ _ c.read_line.ensures _ c.in-Ok.is _ _ c.in_default-content.not-Slot
 
 pub past-rest-requires : goal.past-rest-requires
 past-rest-requires c = search (rules, slot_start)
