@@ -17,7 +17,8 @@ pub(crate) fn put_tail(
     out: &mut [u8],
     at: usize,
 ) -> usize
-    requires { Compiled text.now tables.now.formulas.ops.now tables.now.formulas.nums.now rules.now.firsts.now rules.now.counts.now tables.now.nodes.now rules.now.nfirsts.now rules.now.ncounts.now rules.now.refusals.now n }
+    requires { Compiled text.now tables.now.formulas.ops.now tables.now.formulas.nums.now rules.now.firsts.now rules.now.counts.now tables.now.nodes.now
+        rules.now.nfirsts.now rules.now.ncounts.now rules.now.refusals.now n }
     ensures { TailListed text.now from tables.now.formulas.ops.now tables.now.formulas.nums.now rules.now.firsts.now rules.now.counts.now
         tables.now.nodes.now rules.now.nfirsts.now rules.now.ncounts.now rules.now.refusals.now n (tape out.old at)
         (tape out.new result) }

@@ -14,7 +14,8 @@ pub fn compiling_at(
     bits: &[u64],
     r: usize,
 ) -> Result<Compiled, u64>
-    requires { Tellable tables.now.formulas.ops.now tables.now.formulas.nums.now rules.now.firsts.now rules.now.counts.now tables.now.nodes.now rules.now.nfirsts.now rules.now.ncounts.now rules.now.refusals.now starts.now bits.now r }
+    requires { Tellable tables.now.formulas.ops.now tables.now.formulas.nums.now rules.now.firsts.now rules.now.counts.now tables.now.nodes.now
+        rules.now.nfirsts.now rules.now.ncounts.now rules.now.refusals.now starts.now bits.now r }
     ensures { ToldRule tables.now.formulas.ops.now tables.now.formulas.nums.now rules.now.firsts.now rules.now.counts.now tables.now.nodes.now
         rules.now.nfirsts.now rules.now.ncounts.now rules.now.refusals.now starts.now bits.now r result }
 {

@@ -8,7 +8,8 @@ use plan::layout::RuleList;
 
 // Whether rule q compiles and is like rule r.
 fn is_like(tables: &Tables, rules: &RuleList, q: usize, r: usize) -> bool
-    requires { KnownRule tables.now.formulas.ops.now tables.now.formulas.nums.now rules.now.firsts.now rules.now.counts.now tables.now.nodes.now rules.now.nfirsts.now rules.now.ncounts.now rules.now.refusals.now r × (q < r) }
+    requires { KnownRule tables.now.formulas.ops.now tables.now.formulas.nums.now rules.now.firsts.now rules.now.counts.now tables.now.nodes.now
+        rules.now.nfirsts.now rules.now.ncounts.now rules.now.refusals.now r × (q < r) }
     ensures { Like tables.now.formulas.ops.now tables.now.formulas.nums.now rules.now.firsts.now rules.now.counts.now tables.now.nodes.now
         rules.now.nfirsts.now rules.now.ncounts.now rules.now.refusals.now q r result }
 {
