@@ -1,19 +1,19 @@
 -- From the rows of two compiled rules to their likeness.
-use mathlib.Core.Path.{◌≡◌, sym, ap, ap₂, subst, ◌∙◌}
+use mathlib.Core.Path.{◌≡◌, refl, sym, ap, ap₂, subst, ◌∙◌}
 use mathlib.Core.Bool.{Bool, true, false, ◌&&◌}
 use mathlib.Core.List.{List}
-use mathlib.Core.Option.{Option, some}
+use mathlib.Core.Option.{Option, none, some}
 use Prim.Native.Nat.{ℕ, suc, ◌+◌, ◌-◌, ◌*◌, ◌≤◌, ◌<◌}
 use native.Mathlib.Omega.{arith}
 use lib.ListN.{length}
 use Rattle.formula.specs.Tree.{Tree, unknown, prefix}
 use Rattle.formula.specs.Spells.{run}
 use Rattle.formula.specs.Formula.{Formula}
-use Rattle.formula.specs.Table.{rule_of}
+use Rattle.formula.specs.Table.{is_some, rule_of}
 use Rattle.formula.proofs.Trees.{prefix_length, spells_run}
 use Rattle.formula.proofs.Nodes.{known_at}
 use Rattle.formula.proofs.Rules.{rule_inv}
-use Rattle.monitor.specs.Mon.{Check}
+use Rattle.monitor.specs.Mon.{Check, Mon}
 use Rattle.monitor.specs.Table.{Never, Join, Cell, cell_of, cell_by, cells, row_of, from_tree}
 use Rattle.monitor.proofs.HeldTree.{HoldsTree, held_inv}
 use Rattle.monitor.specs.declared.table.Part.{Part}
@@ -136,3 +136,11 @@ module _ (ops nums nodes : List ℕ) where
 
     pub shown_row_second : (n : ℕ) → n ≡ a.ncount → k < n → IsShown ops nums (row_of nodes (a.nfirst + k))
     shown_row_second n e h = shown_row (omega arith)
+
+  -- what an answer of `is_compiled` says of a part
+  pub part_compiled : (a : Part) (c : Bool) → c ≡ is_some (part_of ops nums nodes a) → c ≡ true → IsCompiled ops nums nodes a
+  part_compiled a c p q = go (part_of ops nums nodes a) refl (sym p ∙ q)
+    where
+      go : (o : Option Mon) → part_of ops nums nodes a ≡ o → is_some o ≡ true → IsCompiled ops nums nodes a
+      go none e w = let z : ◌≡◌ {A = ℕ} 0 1 = cc in absurd (omega arith)
+      go (some m) e w = record { mon = m; is = e }

@@ -4,7 +4,6 @@
 use crate::node::same_nodes;
 use monitor::table::{Part, Tables};
 use result::Refusal;
-use terms::limit::NODE_CELLS;
 
 pub mod node;
 pub mod text;
@@ -18,16 +17,10 @@ ghost use Rattle.alike.specs.Alike.{likeness_call};
 pub fn alike(tables: &Tables, a: Part, b: Part) -> Result<bool, Refusal>
     ensures { told result ≡ likeness_call tables.now.formulas.ops.now tables.now.formulas.nums.now tables.now.nodes.now a b }
 {
-    if tables.nodes.len() < NODE_CELLS {
+    if !tables.is_roomy() {
         return Err(Refusal::Short);
     }
-    if !tables.formulas.is_roomy() {
-        return Err(Refusal::Short);
-    }
-    if !tables.is_compiled(a) {
-        return Err(Refusal::Unfit);
-    }
-    if !tables.is_compiled(b) {
+    if !tables.is_compiled(a) || !tables.is_compiled(b) {
         return Err(Refusal::Unfit);
     }
     Ok(same_nodes(tables, a, b))

@@ -52,7 +52,8 @@ fn same_node(table: &FormulaTable, m: MonNode, n: MonNode) -> bool
 
 // Whether the nodes in rows i and j agree.
 fn same_row(tables: &Tables, i: usize, j: usize) -> bool
-    requires { (row_cells * (i + 1) ≤ length tables.now.nodes.now) × (row_cells * (j + 1) ≤ length tables.now.nodes.now) × IsShown tables.now.formulas.ops.now tables.now.formulas.nums.now (row_of tables.now.nodes.now i)
+    requires { (row_cells * (i + 1) ≤ length tables.now.nodes.now) × (row_cells * (j + 1) ≤ length tables.now.nodes.now)
+        × IsShown tables.now.formulas.ops.now tables.now.formulas.nums.now (row_of tables.now.nodes.now i)
         × IsShown tables.now.formulas.ops.now tables.now.formulas.nums.now (row_of tables.now.nodes.now j) }
     ensures { SameRow tables.now.formulas.ops.now tables.now.formulas.nums.now (row_of tables.now.nodes.now i) (row_of tables.now.nodes.now j) result }
 {

@@ -87,6 +87,7 @@ fn same_text(table: &FormulaTable, a: Cursor, m: usize, b: Cursor, n: usize) -> 
 {
     let mut c = a;
     let mut d = b;
+    // two cursors that move at their own pace, until a sign or a text ends
     loop {
         let x = sign_at(table, c, m);
         let y = sign_at(table, d, n);

@@ -36,6 +36,7 @@ pub fn put_number(bytes: &mut [u8], at: usize, w: u64, n: u64)
     ensures { bytes.new ≡ ink_bits bytes.old at (digits w n) }
 {
     let mut rest = n;
+    // `as`: the number fits, and a `TryFrom` would have an error that cannot be
     for i in 0..w as usize {
         put_bit(bytes, at + i, rest % 2 == 1);
         rest /= 2;

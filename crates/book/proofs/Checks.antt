@@ -3,11 +3,9 @@ use mathlib.Core.Path.{◌≡◌, refl, sym, ap, ap₂, subst, ◌∙◌}
 use mathlib.Core.Bool.{Bool, true, false}
 use mathlib.Core.List.{List, [], ◌∷◌}
 use mathlib.Core.Option.{Option, none, some}
-use Prim.Native.Nat.{ℕ, zero, suc, ◌+◌, ◌-◌, ◌^◌, ◌≤◌, ◌<◌}
+use Prim.Native.Nat.{ℕ, zero, suc, ◌+◌, ◌-◌, ◌≤◌, ◌<◌}
 use native.Mathlib.Omega.{arith}
 use borrow.Author.Tests.{le-leb, lt-leb}
-use mir.Syntax.{w64}
-use mir.Val.{Fits}
 use lib.Dec.{eqb}
 use lib.ListN.{length, get_or, take, drop, length-drop, drop_of_length-le}
 use lib.Seq.{drop-drop, length-take-le}
@@ -18,13 +16,13 @@ use Rattle.line.specs.Means.{means}
 use Rattle.line.specs.Means.{Answer}
 use Rattle.line.proofs.Parts.{lines_next}
 use Rattle.book.specs.Book.{Book, empty, fault, add, add_line, Outcome, refusal, book_result, unless, read_on, ended, read}
-use Rattle.book.specs.Checked.{result_of, Lined, Small, HoldsBook, Agrees, TakesLine}
+use Rattle.book.specs.Checked.{result_of, Lined, HoldsBook, Agrees, TakesLine}
 use Rattle.book.specs.declared.state.State.{State}
 use Rattle.std.specs.Prelude.{Result, Ok, Err}
 use Rattle.result.specs.Refusal.{number_of}
 use Rattle.result.specs.declared.Refusal.{Refusal}
 use Rattle.result.specs.declared.Refusal.TheVariants as why
-use Rattle.book.specs.declared.check.Held.{Held}
+use Rattle.book.specs.declared.check.Read.{Read}
 use Rattle.book.specs.declared.check.Refused.{Refused}
 use Rattle.book.proofs.States.{inside, outside}
 
@@ -63,9 +61,6 @@ pub record Run (text : List ℕ) (s : State) (at line : ℕ) : Type 0 where
   pub counted : line ≤ at
   pub head : s.head ≤ at
 
-pub run_first : (text : List ℕ) (s : State) → Lined text → HoldsBook empty s → Run text s 0 0
-run_first text s t h = record { book = empty; holds = h; same = refl; lined = t; near = omega arith; counted = omega arith; head = omega (arith, h.head) }
-
 -- one line more of a text
 pub read_line : (b : Book) (k : ℕ) (text rest first : List ℕ) (at n : ℕ)
     → ended text ≡ true
@@ -103,7 +98,7 @@ faulty_inj e = cc
 next_faulty : {s : State} {k : Refusal} {B : Type 0} → ◌≡◌ {A = Result State Refusal} (Ok s) (Err k) → B
 next_faulty e = let z : ◌≡◌ {A = ℕ} 0 1 = cc in absurd (omega arith)
 
-abbrev refused_at : Refusal → ℕ → Result Held Refused
+abbrev refused_at : Refusal → ℕ → Result Read Refused
 refused_at k n = Err (record { refusal = k; line = n })
 
 module _ (text : List ℕ) (s : State) (at line n : ℕ) (rest first : List ℕ) (l : Answer) (r : Result State Refusal)
@@ -151,38 +146,13 @@ module _ (text : List ℕ) (s : State) (at line n : ℕ) (rest first : List ℕ)
       go (some x) p a = next_faulty (sym q ∙ a)
 
 module _ (text : List ℕ) (s : State) (at line : ℕ) (v : Run text s at line) where
-  pub run_unfinished : length text ≤ at → 0 < s.depth → result_of (refused_at why.Unfinished line) ≡ book_result (read_on empty 0 (lines text))
+  pub run_unfinished : length text ≤ at → 0 < s.due.depth → result_of (refused_at why.Unfinished line) ≡ book_result (read_on empty 0 (lines text))
   unfolding read_on parts
   run_unfinished h d = sym (ap book_result v.same ∙ rw (drop_of_length-le text h, inside v.book s v.holds d) refl)
 
-  pub run_done : length text ≤ at → s.depth ≤ 0 → result_of (Ok (record { rules = s.rules; nodes = s.nodes; head = s.head; slots = s.slots; states = s.states })) ≡ book_result (read_on empty 0 (lines text))
+  pub run_done : length text ≤ at → s.due.depth ≤ 0 → result_of (Ok (record { rules = s.rules; nodes = s.nodes; steps_at = s.head; slots = s.slots; states = s.states })) ≡ book_result (read_on empty 0 (lines text))
   unfolding read_on parts
   run_done h d = sym (ap book_result v.same ∙ rw (drop_of_length-le text h, outside v.book s v.holds d, v.holds.rules, v.holds.nodes, v.holds.head, v.holds.slots, v.holds.states) refl)
-
-  pub run_small : Small s.depth s.bits
-  run_small = v.holds.small
-
-  module _ (rest : List ℕ) (n : ℕ) (h : at < length text) (e : rest ≡ drop at text) (f : Found 10 rest n) where
-    found_short : n ≤ length text - at
-    found_short = subst (λ (i : ℕ). n ≤ i) (ap length e ∙ length-drop at text) f.inside
-
-    pub run_room : s.head + (n + 1) < 2 ^ 63
-    run_room = omega (arith, found_short, v.lined.short, v.head)
-
-    pub run_found : n ≤ length rest
-    run_found = f.inside
-
-    pub run_add : Fits w64 (n + 1)
-    run_add = record { fits = omega (arith, found_short, v.lined.short) }
-
-    pub run_at : Fits w64 (at + (n + 1))
-    run_at = record { fits = omega (arith, found_short, v.lined.short) }
-
-    pub run_line : Fits w64 (line + 1)
-    run_line = record { fits = omega (arith, v.counted, v.lined.short) }
-
-    pub run_falls : length text - (at + (n + 1)) < length text - at
-    run_falls = omega (arith, found_short)
 
 -- ---- the end of a text
 pub ended_empty : (t : List ℕ) → length t < 1 → true ≡ ended t
@@ -204,10 +174,7 @@ module _ (t : List ℕ) where
   unfolding read
   check_long h = rw (lt-leb (length t) 65535 h) refl
 
-  pub check_lined : (e : Bool) → length t ≤ 65535 → e ≡ ended t → e ≡ true → Lined t
-  check_lined e h p q = record { short = h; ends = sym p ∙ q }
-
-  pub check_ended : (e : Bool) (r : Result Held Refused) → length t ≤ 65535 → e ≡ ended t → e ≡ true → result_of r ≡ book_result (read_on empty 0 (lines t)) → result_of r ≡ book_result (read t)
+  pub check_ended : (e : Bool) (r : Result Read Refused) → length t ≤ 65535 → e ≡ ended t → e ≡ true → result_of r ≡ book_result (read_on empty 0 (lines t)) → result_of r ≡ book_result (read t)
   unfolding read
   check_ended e r h p q c = rw (le-leb (length t) 65535 h, ← p, q) c
 

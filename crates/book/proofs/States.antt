@@ -3,15 +3,13 @@ use mathlib.Core.Path.{◌≡◌, refl, sym, ap, subst, ◌∙◌}
 use mathlib.Core.Bool.{Bool, true, false, ◌&&◌, not}
 use mathlib.Core.List.{List, [], ◌∷◌, ◌++◌}
 use mathlib.Core.Option.{Option, none, some}
-use Prim.Native.Nat.{ℕ, zero, suc, ◌+◌, ◌^◌, ◌≤◌, ◌<◌}
+use Prim.Native.Nat.{ℕ, zero, suc, ◌+◌, ◌≤◌, ◌<◌}
 use native.Mathlib.Omega.{arith}
 use native.Mathlib.Numerals.{add-one}
-use borrow.Author.Tests.{ne_eqb, lt-ltb, le-ltb, ltb-true, leb-true}
-use mir.Syntax.{w64}
-use mir.Val.{Fits}
+use borrow.Author.Tests.{ne_eqb, lt-ltb, ltb-true, leb-true}
 use lib.Dec.{eqb, ltb, leb}
 use lib.ListN.{length, take, drop, length-append}
-use Rattle.terms.specs.Limits.{book_nodes, book_rules, book_slots, deepest, rule_nodes}
+use Rattle.terms.specs.Limits.{book_nodes, deepest, rule_nodes}
 use Rattle.std.specs.Prelude.{None, Some, Result, Ok, Err}
 use Rattle.result.specs.declared.Refusal.{Refusal}
 use Rattle.result.specs.declared.Refusal.TheVariants as why
@@ -27,17 +25,18 @@ use Rattle.line.specs.declared.line.Content.TheVariants as contents
 use Rattle.terms.specs.declared.kind.Kind.{Kind}
 use Rattle.terms.specs.Choice.{pick}
 use Rattle.line.proofs.Lines.{sort_held}
-use Rattle.book.specs.Book.{Book, empty, is_nil, whole, head_of, last_of, bump, spend, opening, stands, opens, within, or_else, first_fault, fault, add}
-use Rattle.book.specs.Checked.{due_of, depths, Small, DueIs, HoldsBook, Inside, NodeRoom, Room, SlotRoom, StillOpening, MayStand, Opens, Within, misplaced, error_in, Placed, Refuses, Addable, Adds, Agrees, TakesLine, TakesContent}
+use Rattle.book.specs.Book.{Book, empty, is_nil, whole, head_of, last_of, bump, spend, stands, opens, within, or_else, first_fault, fault, add}
+use Rattle.book.specs.Checked.{HoldsBook, Inside, NodeRoom, MayStand, Opens, Within, misplaced, error_in, Placed, Refuses, Addable, Adds, Agrees, TakesLine, TakesContent}
+use Rattle.book.specs.Due.{due_of, depths}
 use Rattle.book.specs.declared.due.Due.{Due}
 use Rattle.book.specs.declared.state.State.{State}
 
 false_true : {B : Type 0} → true ≡ false → B
 false_true e = let z : ◌≡◌ {A = ℕ} 0 1 = cc in absurd (omega arith)
 
-pub starts : HoldsBook empty (record { rules = 0; nodes = 0; own = 0; depth = 0; bits = 0; stepping = false; head = 0; slots = 0; states = None })
+pub starts : (d : Due) → d.depth ≡ 0 → HoldsBook empty (record { rules = 0; nodes = 0; own = 0; due = d; stepping = false; head = 0; slots = 0; states = None })
 unfolding last_of due_of
-starts = record { rules = refl; nodes = refl; own = refl; due = refl; small = record { low = omega arith; fits = omega arith }; begun = λ e. false_true e; stepping = refl; head = refl; slots = refl; states = refl }
+starts d e = record { rules = refl; nodes = refl; own = refl; due = rw e refl; begun = λ z. false_true z; stepping = refl; head = refl; slots = refl; states = refl }
 
 snoc_length : {A : Type 0} (l : List A) (a : A) → length l + 1 ≡ length (l ++ a ∷ [])
 snoc_length l a = sym (length-append l (a ∷ []))
@@ -65,49 +64,34 @@ nil_snoc : {A : Type 0} (l : List A) (a : A) → true ≡ not (is_nil (l ++ a �
 nil_snoc [] a = refl
 nil_snoc (b ∷ r) a = refl
 
-nil_length : {A : Type 0} (l : List A) → eqb (length l) 0 ≡ is_nil l
-nil_length [] = refl
-nil_length (a ∷ r) = ne_eqb (suc (length r)) 0 (λ (z : suc (length r) ≡ 0). omega arith)
-
-and_false : (t : Bool) → false ≡ (t && false)
-and_false true = refl
-and_false false = refl
-
 and_true : (t : Bool) → t ≡ (t && true)
 and_true true = refl
 and_true false = refl
 
 module _ (b : Book) (s : State) (h : HoldsBook b s) where
-  pub inside : 0 < s.depth → whole b ≡ false
+  pub inside : 0 < s.due.depth → whole b ≡ false
   unfolding due_of
-  inside k = ap is_nil h.due ∙ go s.depth k
+  inside k = ap is_nil h.due ∙ go s.due.depth k
     where
-      go : (d : ℕ) → 0 < d → is_nil (due_of d s.bits) ≡ false
+      go : (d : ℕ) → 0 < d → is_nil (due_of d s.due.bits) ≡ false
       go zero k = absurd (omega arith)
       go (suc d) k = refl
 
-  pub outside : s.depth ≤ 0 → whole b ≡ true
+  pub outside : s.due.depth ≤ 0 → whole b ≡ true
   unfolding due_of
-  outside k = ap is_nil h.due ∙ go s.depth k
+  outside k = ap is_nil h.due ∙ go s.due.depth k
     where
-      go : (d : ℕ) → d ≤ 0 → is_nil (due_of d s.bits) ≡ true
+      go : (d : ℕ) → d ≤ 0 → is_nil (due_of d s.due.bits) ≡ true
       go zero k = refl
       go (suc d) k = absurd (omega arith)
 
-  next_depth : head_of b.due ≡ s.depth
+  next_depth : head_of b.due ≡ s.due.depth
   unfolding due_of
-  next_depth = ap head_of h.due ∙ go s.depth
+  next_depth = ap head_of h.due ∙ go s.due.depth
     where
-      go : (d : ℕ) → head_of (due_of d s.bits) ≡ d
+      go : (d : ℕ) → head_of (due_of d s.due.bits) ≡ d
       go zero = refl
       go (suc d) = refl
-
-  steps_come : s.stepping ≡ true → is_nil b.steps ≡ false
-  steps_come k = go (is_nil b.steps) (sym h.stepping ∙ k)
-    where
-      go : (t : Bool) → not t ≡ true → t ≡ false
-      go true e = sym e
-      go false e = refl
 
   no_steps : s.stepping ≡ false → is_nil b.steps ≡ true
   no_steps k = go (is_nil b.steps) (sym h.stepping ∙ k)
@@ -116,11 +100,11 @@ module _ (b : Book) (s : State) (h : HoldsBook b s) where
       go true e = refl
       go false e = sym e
 
-  whole_is : eqb s.depth 0 ≡ whole b
+  whole_is : eqb s.due.depth 0 ≡ whole b
   unfolding due_of
-  whole_is = go s.depth ∙ sym (ap is_nil h.due)
+  whole_is = go s.due.depth ∙ sym (ap is_nil h.due)
     where
-      go : (d : ℕ) → eqb d 0 ≡ is_nil (due_of d s.bits)
+      go : (d : ℕ) → eqb d 0 ≡ is_nil (due_of d s.due.bits)
       go zero = refl
       go (suc d) = ne_eqb (suc d) 0 (λ (z : suc d ≡ 0). omega arith)
 
@@ -129,71 +113,50 @@ inside_is zero = refl
 inside_is (suc d) = lt-ltb 0 (suc d) (omega arith) ∙ ap not (sym (ne_eqb (suc d) 0 (λ (z : suc d ≡ 0). omega arith)))
 
 -- ---- the tests by a line's sort
-module _ (s : State) where
-  pub opening_over : s.stepping ≡ true → StillOpening s false
-  unfolding opening
-  opening_over t = record { is = λ b h. rw (steps_come b s h t) (and_false (is_nil b.labels)) }
-
-  pub opening_yet : s.stepping ≡ false → StillOpening s (eqb s.rules 0)
-  unfolding opening
-  opening_yet t = record {
-    is = λ b h. ap (λ (n : ℕ). eqb n 0) h.rules ∙ nil_length b.labels ∙ rw (no_steps b s h t) (and_true (is_nil b.labels));
-  }
-
 module _ (s : State) (o : Sort) where
-  pub rule_stands : o ≡ sort.Rule → s.stepping ≡ false → MayStand s o (eqb s.depth 0)
+  pub rule_stands : o ≡ sort.Rule → s.stepping ≡ false → MayStand s o (eqb s.due.depth 0)
   unfolding stands
   rule_stands e t = record {
     is = λ b h. whole_is b s h ∙ rw (e, no_steps b s h t) (and_true (whole b));
     inside = λ _. rw e tt;
   }
 
-  pub node_stands : o ≡ sort.Node → MayStand s o (ltb 0 s.depth)
+  pub node_stands : o ≡ sort.Node → MayStand s o (ltb 0 s.due.depth)
   unfolding stands
   node_stands e = record {
-    is = λ b h. inside_is s.depth ∙ rw e (ap not (whole_is b s h));
-    inside = λ z. rw e (ltb-true 0 s.depth z);
+    is = λ b h. inside_is s.due.depth ∙ rw e (ap not (whole_is b s h));
+    inside = λ z. rw e (ltb-true 0 s.due.depth z);
   }
 
-  pub step_stands : o ≡ sort.Step → MayStand s o (eqb s.depth 0)
+  pub step_stands : o ≡ sort.Step → MayStand s o (eqb s.due.depth 0)
   unfolding stands
   step_stands e = record { is = λ b h. rw e (whole_is b s h); inside = λ _. rw e tt }
 
   module _ (e : o ≡ sort.Node) where
     node_within : (r : Bool)
-        → r ≡ (ltb s.own rule_nodes && (ltb s.nodes book_nodes && leb s.depth deepest))
+        → r ≡ (ltb s.own rule_nodes && (ltb s.nodes book_nodes && leb s.due.depth deepest))
         → (r ≡ true → NodeRoom s)
         → Within s o r
     unfolding within
     node_within r q n = record { is = λ b h. rw (e, ← h.own, ← h.nodes, next_depth b s h) q; room = λ z. rw e (n z) }
 
-    pub own_full : rule_nodes ≤ s.own → Within s o false
-    own_full m = node_within false (rw (le-ltb s.own rule_nodes m) refl) (λ z. false_true (sym z))
-
     module _ (m : s.own < rule_nodes) where
-      pub nodes_full : book_nodes ≤ s.nodes → Within s o false
-      nodes_full k = node_within false (rw (lt-ltb s.own rule_nodes m, le-ltb s.nodes book_nodes k) refl) (λ z. false_true (sym z))
-
-      pub node_deep : s.nodes < book_nodes → Within s o (leb s.depth deepest)
+      pub node_deep : s.nodes < book_nodes → Within s o (leb s.due.depth deepest)
       node_deep k =
-          node_within (leb s.depth deepest) (rw (lt-ltb s.own rule_nodes m, lt-ltb s.nodes book_nodes k) refl)
-          (λ z. record { own = m; nodes = k; depth = leb-true s.depth deepest z })
+          node_within (leb s.due.depth deepest) (rw (lt-ltb s.own rule_nodes m, lt-ltb s.nodes book_nodes k) refl)
+          (λ z. record { own = m; nodes = k; depth = leb-true s.due.depth deepest z })
 
 -- ---- what a line's content adds
 module _ (s : State) (c : Content) (n : ℕ) (a : Addable s c n) where
   module _ (start len : ℕ) (kind : Kind) (e : c ≡ contents.Rule start len kind) where
-    pub rule_fits : Fits w64 (s.rules + 1)
-    rule_fits = let few : s.rules < book_rules = subst (λ (x : Content). Room s (sort_in x)) e a.room in record { fits = omega arith }
-
-    pub adds_rule : Adds s c n (record { rules = s.rules + 1; nodes = s.nodes; own = 0; depth = 1; bits = 0; stepping = s.stepping; head = s.head + n; slots = s.slots; states = s.states })
+    pub adds_rule : (d : Due) → d.depth ≡ 1 → d.bits ≡ 0 → Adds s c n (record { rules = s.rules + 1; nodes = s.nodes; own = 0; due = d; stepping = s.stepping; head = s.head + n; slots = s.slots; states = s.states })
     unfolding add due_of depths
-    adds_rule = record {
+    adds_rule d j k = record {
       is = λ t b h. rw e (record {
         rules = ap (λ (x : ℕ). x + 1) h.rules ∙ snoc_length b.labels (take len (drop start t));
         nodes = h.nodes;
         own = sym (last_snoc b.counts 0);
-        due = refl;
-        small = record { low = omega arith; fits = omega arith };
+        due = rw (k, j) refl;
         begun = λ _. omega (arith, snoc_length b.counts 0);
         stepping = h.stepping;
         head = ap (λ (x : ℕ). x + n) h.head;
@@ -203,32 +166,19 @@ module _ (s : State) (c : Content) (n : ℕ) (a : Addable s c n) where
     }
 
   module _ (op num : ℕ) (e : c ≡ contents.Node op num) where
-    pub node_in : 1 ≤ s.depth
+    pub node_in : 1 ≤ s.due.depth
     node_in = subst (λ (x : Content). Inside s (sort_in x)) e a.inside
 
-    node_room : NodeRoom s
-    node_room = subst (λ (x : Content). Room s (sort_in x)) e a.room
-
-    pub nodes_fit : Fits w64 (s.nodes + 1)
-    nodes_fit = record { fits = omega (arith, node_room.nodes) }
-
-    pub own_fits : Fits w64 (s.own + 1)
-    own_fits = record { fits = omega (arith, node_room.own) }
-
-    pub node_shallow : s.depth ≤ 64
-    node_shallow = node_room.depth
-
     pub adds_node : (r : Due)
-        → DueIs (spend op (due_of s.depth s.bits)) r
-        → Adds s c n (record { rules = s.rules; nodes = s.nodes + 1; own = s.own + 1; depth = r.depth; bits = r.bits; stepping = s.stepping; head = s.head + n; slots = s.slots; states = s.states })
+        → spend op (due_of s.due.depth s.due.bits) ≡ due_of r.depth r.bits
+        → Adds s c n (record { rules = s.rules; nodes = s.nodes + 1; own = s.own + 1; due = r; stepping = s.stepping; head = s.head + n; slots = s.slots; states = s.states })
     unfolding add
     adds_node r u = record {
       is = λ t b h. rw e (record {
         rules = h.rules;
         nodes = ap (λ (x : ℕ). x + 1) h.nodes ∙ snoc_length b.ops op;
         own = ap (λ (x : ℕ). x + 1) h.own ∙ sym (last_bump b.counts (h.begun (inside b s h node_in)));
-        due = ap (spend op) h.due ∙ u.is;
-        small = u.small;
+        due = ap (spend op) h.due ∙ u;
         begun = λ _. subst (λ (x : ℕ). 1 ≤ x) (sym (bump_length b.counts)) (h.begun (inside b s h node_in));
         stepping = h.stepping;
         head = ap (λ (x : ℕ). x + n) h.head;
@@ -237,7 +187,7 @@ module _ (s : State) (c : Content) (n : ℕ) (a : Addable s c n) where
       });
     }
 
-  pub adds_step : (u w : ℕ) → c ≡ contents.Step u w → Adds s c n (record { rules = s.rules; nodes = s.nodes; own = s.own; depth = s.depth; bits = s.bits; stepping = true; head = s.head; slots = s.slots; states = s.states })
+  pub adds_step : (u w : ℕ) → c ≡ contents.Step u w → Adds s c n (record { rules = s.rules; nodes = s.nodes; own = s.own; due = s.due; stepping = true; head = s.head; slots = s.slots; states = s.states })
   unfolding add
   adds_step u w e = record {
     is = λ t b h. rw e (record {
@@ -245,7 +195,6 @@ module _ (s : State) (c : Content) (n : ℕ) (a : Addable s c n) where
       nodes = h.nodes;
       own = h.own;
       due = h.due;
-      small = h.small;
       begun = h.begun;
       stepping = nil_snoc b.steps (record { number = u; truths = w });
       head = h.head;
@@ -255,7 +204,7 @@ module _ (s : State) (c : Content) (n : ℕ) (a : Addable s c n) where
   }
 
   pub adds_states : (m : ℕ) → c ≡ contents.States m
-      → Adds s c n (record { rules = s.rules; nodes = s.nodes; own = s.own; depth = s.depth; bits = s.bits; stepping = s.stepping; head = s.head + n; slots = s.slots; states = Some m })
+      → Adds s c n (record { rules = s.rules; nodes = s.nodes; own = s.own; due = s.due; stepping = s.stepping; head = s.head + n; slots = s.slots; states = Some m })
   unfolding add
   adds_states m e = record {
     is = λ t b h. rw e (record {
@@ -263,7 +212,6 @@ module _ (s : State) (c : Content) (n : ℕ) (a : Addable s c n) where
       nodes = h.nodes;
       own = h.own;
       due = h.due;
-      small = h.small;
       begun = h.begun;
       stepping = h.stepping;
       head = ap (λ (x : ℕ). x + n) h.head;
@@ -273,10 +221,7 @@ module _ (s : State) (c : Content) (n : ℕ) (a : Addable s c n) where
   }
 
   module _ (start len width : ℕ) (e : c ≡ contents.Slot start len width) where
-    pub slot_fits : Fits w64 (s.slots + 1)
-    slot_fits = let few : s.slots < book_slots = subst (λ (x : Content). SlotRoom s (sort_in x)) e a.slots in record { fits = omega arith }
-
-    pub adds_slot : Adds s c n (record { rules = s.rules; nodes = s.nodes; own = s.own; depth = s.depth; bits = s.bits; stepping = s.stepping; head = s.head + n; slots = s.slots + 1; states = s.states })
+    pub adds_slot : Adds s c n (record { rules = s.rules; nodes = s.nodes; own = s.own; due = s.due; stepping = s.stepping; head = s.head + n; slots = s.slots + 1; states = s.states })
     unfolding add
     adds_slot = record {
       is = λ t b h. rw e (record {
@@ -284,7 +229,6 @@ module _ (s : State) (c : Content) (n : ℕ) (a : Addable s c n) where
         nodes = h.nodes;
         own = h.own;
         due = h.due;
-        small = h.small;
         begun = h.begun;
         stepping = h.stepping;
         head = ap (λ (x : ℕ). x + n) h.head;
@@ -357,12 +301,6 @@ module _ (s : State) (l : Answer) (n : ℕ) where
   faulty : (f : Refusal) → ((t : List ℕ) (b : Book) → HoldsBook b s → fault b (means t l) ≡ some f) → TakesLine s l n (Err f)
   faulty f e = record { is = λ t b h. subst (λ (o : Option Refusal). Agrees n b (means t l) o (Err f)) (sym (e t b h)) refl }
 
-  pub wrong_taken : (x : Fault) (f : Refusal) → l ≡ Err x → Refuses s x f → TakesLine s l n (Err f)
-  wrong_taken x f e p = faulty f (λ t b h. ap (λ (y : Answer). fault b (means t y)) e ∙ p.is t b h)
-
-  pub right_taken : (c : Content) (r : Result State Refusal) → l ≡ Ok c → TakesContent s c n r → TakesLine s l n r
-  right_taken c r e p = subst (λ (x : Answer). TakesLine s x n r) (sym e) p
-
 module _ (s : State) (c : Content) (n : ℕ) (o : Sort) (r : Result Unit Refusal) (i : o ≡ sort_in c) (p : Placed s o r) where
   sort_is : (t : List ℕ) → sort_of (held t c) ≡ o
   sort_is t = sort_held t c ∙ sym i
@@ -379,15 +317,6 @@ module _ (s : State) (c : Content) (n : ℕ) (o : Sort) (r : Result Unit Refusal
     pub right_limit : v ≡ false → TakesContent s c n (Err why.Limit)
     unfolding means
     right_limit z = faulty s (Ok c) n why.Limit (λ t b h. only_limit t b h ∙ rw z refl)
-
-    pub right_addable : v ≡ true → (s.head + n < 2 ^ 63) × Small s.depth s.bits → Addable s c n
-    right_addable z k = record {
-      short = k.0;
-      small = k.1;
-      inside = subst (Inside s) i (p.inside (ap error_in q));
-      room = subst (Room s) i (w.room z);
-      slots = subst (SlotRoom s) i (p.room (ap error_in q));
-    }
 
     pub right_adds : (s' : State) → v ≡ true → Adds s c n s' → TakesContent s c n (Ok s')
     unfolding means

@@ -1,5 +1,5 @@
 -- What the check answers, and how its state stands for what has been read.
-use Rattle.std.specs.Prelude.{◌≡◌, Bool, true, false, not, List, [], ◌∷◌, ℕ, zero, suc, ◌+◌, ◌*◌, ◌/◌, ◌%◌, ◌^◌, ◌≤◌, ◌<◌, eqb, length}
+use Rattle.std.specs.Prelude.{◌≡◌, Bool, true, false, not, List, ℕ, ◌+◌, ◌^◌, ◌≤◌, ◌<◌, length}
 use Rattle.std.proofs.Math.Option.{Option, none, some}
 use Rattle.terms.specs.Limits.{book_bytes, book_nodes, book_rules, book_slots, deepest, rule_nodes}
 use Rattle.terms.specs.Choice.{pick}
@@ -15,14 +15,14 @@ use Rattle.result.specs.Refusal.{number_of}
 use Rattle.result.specs.declared.Refusal.{Refusal}
 use Rattle.result.specs.declared.Refusal.TheVariants as why
 use Rattle.book.specs.Book.{Book, is_nil, last_of, opening, stands, opens, within, or_else, fault, add, add_line, BookResult, contents, refusal, ended}
-use Rattle.book.specs.declared.due.Due.{Due}
+use Rattle.book.specs.Due.{due_of}
 use Rattle.book.specs.declared.state.State.{State}
-use Rattle.book.specs.declared.check.Held.{Held}
+use Rattle.book.specs.declared.check.Read.{Read}
 use Rattle.book.specs.declared.check.Refused.{Refused}
 
 -- document 01's result for each case of the answer
-abbrev pub result_of : Result Held Refused → BookResult
-result_of (Ok h) = contents h.rules h.nodes h.head h.slots h.states
+abbrev pub result_of : Result Read Refused → BookResult
+result_of (Ok h) = contents h.rules h.nodes h.steps_at h.slots h.states
 result_of (Err r) = refusal (number_of r.refusal) r.line
 
 -- a text that is no longer than a book and ends where a line ends
@@ -30,33 +30,12 @@ pub record Lined (text : List ℕ) : Type 0 where
   pub short : length text ≤ book_bytes
   pub ends : ended text ≡ true
 
--- ---- the depths at which operands are due, as a depth and bits
--- the depths from d down whose bits are set, bit 0 for d itself
-unfoldable pub depths : ℕ → ℕ → List ℕ
-depths zero bits = []
-depths (suc d) bits = pick (eqb (bits % 2) 1) (suc d ∷ depths d (bits / 2)) (depths d (bits / 2))
-
--- the next one at depth d, those behind it by the bits; none at depth 0
-unfoldable pub due_of : ℕ → ℕ → List ℕ
-due_of zero bits = []
-due_of (suc d) bits = suc d ∷ depths (suc d) bits
-
--- the root is never due behind another, so the bits fit one word down to depth 65
-pub record Small (depth bits : ℕ) : Type 0 where
-  pub low : depth ≤ 65
-  pub fits : 2 * bits < 2 ^ depth
-
-pub record DueIs (l : List ℕ) (r : Due) : Type 0 where
-  pub is : l ≡ due_of r.depth r.bits
-  pub small : Small r.depth r.bits
-
 -- ---- the state
 pub record HoldsBook (b : Book) (s : State) : Type 0 where
   pub rules : s.rules ≡ length b.labels
   pub nodes : s.nodes ≡ length b.ops
   pub own : s.own ≡ last_of b.counts
-  pub due : b.due ≡ due_of s.depth s.bits
-  pub small : Small s.depth s.bits
+  pub due : b.due ≡ due_of s.due.depth s.due.bits
   pub begun : is_nil b.due ≡ false → 1 ≤ length b.counts
   pub stepping : s.stepping ≡ not (is_nil b.steps)
   pub head : s.head ≡ b.head
@@ -67,7 +46,7 @@ pub record HoldsBook (b : Book) (s : State) : Type 0 where
 -- a node stands inside a rule
 abbrev pub Inside : State → Sort → Type 0
 Inside s sort.Rule = Unit
-Inside s sort.Node = 1 ≤ s.depth
+Inside s sort.Node = 1 ≤ s.due.depth
 Inside s sort.Step = Unit
 Inside s sort.States = Unit
 Inside s sort.Slot = Unit
@@ -75,7 +54,7 @@ Inside s sort.Slot = Unit
 pub record NodeRoom (s : State) : Type 0 where
   pub own : s.own < rule_nodes
   pub nodes : s.nodes < book_nodes
-  pub depth : s.depth ≤ deepest
+  pub depth : s.due.depth ≤ deepest
 
 abbrev pub Room : State → Sort → Type 0
 Room s sort.Rule = s.rules < book_rules
@@ -126,7 +105,6 @@ pub record Refuses (s : State) (x : Fault) (r : Refusal) : Type 0 where
 -- the state with the content of a line of n bytes added, whatever the line's text
 pub record Addable (s : State) (c : Content) (n : ℕ) : Type 0 where
   pub short : s.head + n < 2 ^ 63
-  pub small : Small s.depth s.bits
   pub inside : Inside s (sort_in c)
   pub room : Room s (sort_in c)
   pub slots : SlotRoom s (sort_in c)

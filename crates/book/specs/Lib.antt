@@ -1,3 +1,4 @@
 -- What a book is, and what the check over its bytes answers.
 pub mod Book
+pub mod Due
 pub mod Checked

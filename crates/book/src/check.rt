@@ -10,12 +10,12 @@ use line::text::{find, past, upto};
 use result::Refusal;
 use terms::limit::BOOK_BYTES;
 
-// How much a book holds. `head` is the number of bytes before the step lines; `slots` counts the slots.
+// How much a book holds, where its step lines begin, and its count of states.
 #[derive(Clone, Copy, Debug, PartialEq, Eq)]
-pub struct Held {
+pub struct Read {
     pub rules: usize,
     pub nodes: usize,
-    pub head: usize,
+    pub steps_at: usize,
     pub slots: usize,
     pub states: Option<u64>,
 }
@@ -28,7 +28,7 @@ pub struct Refused {
 }
 
 // The lines one after the other.
-fn check_lines(text: &[u8]) -> Result<Held, Refused>
+fn check_lines(text: &[u8]) -> Result<Read, Refused>
     requires { Lined text.now }
     ensures { result_of result ≡ book_result (read_on empty 0 (lines text.now)) }
 {
@@ -55,16 +55,16 @@ fn check_lines(text: &[u8]) -> Result<Held, Refused>
             }
         }
     }
-    if 0 < s.depth {
+    if 0 < s.due.depth {
         return Err(Refused {
             refusal: Refusal::Unfinished,
             line,
         });
     }
-    Ok(Held {
+    Ok(Read {
         rules: s.rules,
         nodes: s.nodes,
-        head: s.head,
+        steps_at: s.head,
         slots: s.slots,
         states: s.states,
     })
@@ -81,7 +81,7 @@ fn is_ended(text: &[u8]) -> bool
 }
 
 // The check of a whole book.
-pub fn check(text: &[u8]) -> Result<Held, Refused>
+pub fn check(text: &[u8]) -> Result<Read, Refused>
     ensures { result_of result ≡ book_result (read text.now) }
 {
     if BOOK_BYTES < text.len() {

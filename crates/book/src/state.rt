@@ -1,9 +1,9 @@
 // What the check knows of the lines read so far, and a line taken into it.
 ghost use Rattle.std.specs.Prelude.{◌+◌, ◌<◌, ◌^◌, ◌≡◌};
 ghost use Rattle.book.specs.Book.{empty, count_in};
-ghost use Rattle.book.specs.Checked.{Small, HoldsBook, StillOpening, MayStand, Opens, Within, Placed, Refuses, Addable, Adds, TakesContent, TakesLine};
+ghost use Rattle.book.specs.Checked.{HoldsBook, StillOpening, MayStand, Opens, Within, Placed, Refuses, Addable, Adds, TakesContent, TakesLine};
 
-use crate::due::operands;
+use crate::due::Due;
 use line::line::{Content, Fault, Sort};
 use result::Refusal;
 use terms::limit::{BOOK_NODES, BOOK_RULES, BOOK_SLOTS, DEEPEST, RULE_NODES};
@@ -20,8 +20,7 @@ pub struct State {
     pub rules: usize,
     pub nodes: usize,
     pub own: usize,
-    pub depth: usize,
-    pub bits: u64,
+    pub due: Due,
     pub stepping: bool,
     pub head: usize,
     pub slots: usize,
@@ -35,8 +34,7 @@ pub fn start() -> State
         rules: 0,
         nodes: 0,
         own: 0,
-        depth: 0,
-        bits: 0,
+        due: Due { depth: 0, bits: 0 },
         stepping: false,
         head: 0,
         slots: 0,
@@ -59,9 +57,9 @@ impl State {
         ensures { MayStand self sort result }
     {
         match sort {
-            Sort::Rule => !self.stepping && self.depth == 0,
-            Sort::Node => 0 < self.depth,
-            Sort::Step => self.depth == 0,
+            Sort::Rule => !self.stepping && self.due.depth == 0,
+            Sort::Node => 0 < self.due.depth,
+            Sort::Step => self.due.depth == 0,
             Sort::States | Sort::Slot => self.opening(),
         }
     }
@@ -86,7 +84,7 @@ impl State {
         match sort {
             Sort::Rule => self.rules < BOOK_RULES,
             Sort::Node => {
-                self.own < RULE_NODES && self.nodes < BOOK_NODES && self.depth <= DEEPEST
+                self.own < RULE_NODES && self.nodes < BOOK_NODES && self.due.depth <= DEEPEST
             }
             Sort::Step | Sort::States | Sort::Slot => true,
         }
@@ -114,22 +112,17 @@ impl State {
             Content::Rule { .. } => State {
                 rules: self.rules + 1,
                 own: 0,
-                depth: 1,
-                bits: 0,
+                due: Due { depth: 1, bits: 0 },
                 head: self.head + n,
                 ..self
             },
-            Content::Node { op, .. } => {
-                let due = operands(op, self.depth, self.bits);
-                State {
-                    nodes: self.nodes + 1,
-                    own: self.own + 1,
-                    depth: due.depth,
-                    bits: due.bits,
-                    head: self.head + n,
-                    ..self
-                }
-            }
+            Content::Node { op, .. } => State {
+                nodes: self.nodes + 1,
+                own: self.own + 1,
+                due: self.due.operands(op),
+                head: self.head + n,
+                ..self
+            },
             Content::Step { .. } => State {
                 stepping: true,
                 ..self
@@ -149,7 +142,7 @@ impl State {
 
     // The content of a line of n bytes, its LF counted: its place, its order among the opening lines, the limits, in this order.
     fn take_content(self, content: Content, n: usize) -> Result<State, Refusal>
-        requires { (self.head + n < 2 ^ 63) × Small self.depth self.bits }
+        requires { self.head + n < 2 ^ 63 }
         ensures { TakesContent self content n result }
     {
         let sort = content.sort();
@@ -175,7 +168,7 @@ impl State {
 
     // A line of n bytes, its LF counted.
     pub(crate) fn take(self, line: Result<Content, Fault>, n: usize) -> Result<State, Refusal>
-        requires { (self.head + n < 2 ^ 63) × Small self.depth self.bits }
+        requires { self.head + n < 2 ^ 63 }
         ensures { TakesLine self line n result }
     {
         match line {

@@ -11,7 +11,7 @@ use Rattle.book.specs.Book.{Book, accepted}
 use Rattle.std.specs.Prelude.{Ok}
 use Rattle.reader.specs.BookTables.{BookTables, SlotTables, written, read_into}
 use Rattle.reader.specs.Answer.{Reads}
-use Rattle.reader.specs.declared.read.Read.{Read}
+use Rattle.book.specs.declared.check.Read.{Read}
 use Rattle.reader.proofs.Answers.{ReadBack, read_inv}
 use Rattle.book_laws.proofs.RuleLaws as laws
 

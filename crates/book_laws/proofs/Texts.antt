@@ -25,9 +25,6 @@ unfoldable pub free : ℕ → List ℕ → Bool
 free c [] = true
 free c (b ∷ r) = bool.not (eqb b c) && free c r
 
-and_is : (a b : Bool) → a ≡ true → b ≡ true → (a && b) ≡ true
-and_is a b p q = rw (p, q) refl
-
 pub free_append : (c : ℕ) (a b : List ℕ) → free c a ≡ true → free c b ≡ true → free c (a ++ b) ≡ true
 unfolding free
 free_append c [] b p q = q

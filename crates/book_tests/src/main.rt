@@ -2,10 +2,10 @@
 // place past the book keeps its mark, and the steps.
 #![tactic(auto)]
 
-use book::check::Refused;
+use book::check::{Read, Refused};
 use input::{TEXT_ROOM, read_full};
 use letters::{length, letter};
-use reader::read::{Read, read_book};
+use reader::read::read_book;
 use reader::steps::next_step;
 use reader::tables::{BookTables, SlotTables};
 use std::rt::Files;
@@ -32,7 +32,7 @@ fn put(rt: &impl Print, s: &[u8]) -> io::Result<()> {
     rt.write_all(s)
 }
 
-// A line word, by its number.
+// A line word, by its number. Four lines, in slots too: a shared function would want a contract of what is written.
 fn show_word(rt: &impl Print, k: u8) -> io::Result<()> {
     for i in 0..length(k) {
         put(rt, &[letter(k, i)])?;
@@ -47,6 +47,7 @@ fn show(rt: &impl Print, n: u64) -> io::Result<()> {
 }
 
 fn show_size(rt: &impl Print, n: usize) -> io::Result<()> {
+    // `as`: the number fits, and a `TryFrom` would have an error that cannot be
     show(rt, n as u64)
 }
 

@@ -13,11 +13,11 @@ use Rattle.result.specs.Refusal.{number_of, told as result_of}
 use Rattle.result.specs.declared.Refusal.{Refusal}
 use Rattle.book.specs.Book.{book_result}
 use Rattle.reader.specs.BookTables.{BookTables, SlotTables, read_into}
-use Rattle.reader.specs.Answer as Reading
+use Rattle.book.specs.Checked as Reading
 use Rattle.reader.specs.Answer.{Reads}
 use Rattle.reader.specs.Steps as Steps
 use Rattle.reader.specs.Steps.{next_step}
-use Rattle.reader.specs.declared.read.Read.{Read}
+use Rattle.book.specs.declared.check.Read.{Read}
 use Rattle.reader.specs.declared.steps.StepLine.{StepLine}
 use Rattle.book.specs.declared.check.Refused.{Refused}
 use Rattle.reader.proofs.Answers.{refused_inv, refused_small}

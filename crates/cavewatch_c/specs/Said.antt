@@ -4,7 +4,7 @@ use Rattle.std.proofs.lemmas.List.Edits.{sets}
 use Rattle.terms.specs.Limits.{book_bytes}
 use Rattle.result.specs.Refusal.{number_of}
 use Rattle.book.specs.declared.check.Refused.{Refused}
-use Rattle.reader.specs.declared.read.Read.{Read}
+use Rattle.book.specs.declared.check.Read.{Read}
 use Rattle.cavewatch_c.specs.Numbers.{Told, tell}
 use Rattle.cavewatch_c.specs.declared.tell.Said.{Said}
 use Rattle.cavewatch_c.specs.declared.tell.Said.TheVariants.{Number, One, Three, Six}

@@ -1,4 +1,5 @@
-// A rule from C: compiled, and its monitor made, stepped, saved and restored in lent memory.
+// A rule from C: compiled, and its monitor made, stepped, saved and restored in lent memory. Each call takes C's own parameters, which its contract
+// names, and makes the structs of them itself.
 ghost use Rattle.cavewatch_c.specs.Calls.{CompileRule, Fresh, Step, Run, Save, Restore};
 ghost use Rattle.std.specs.Prelude.{◌≡◌};
 ghost use Rattle.node_step.specs.Memory.{entries};
@@ -6,8 +7,8 @@ ghost use Rattle.lent.specs.Lent.{monitor_of, tables};
 
 use crate::tell::{say, tell_count, tell_made, tell_run, tell_step};
 use compiler::compile_formula;
-use formula::table::FormulaTable;
-use lent::Frame;
+use formula::table::{FormulaTable, Span};
+use lent::{Blank, Frame};
 use monitor::table::{Part, Tables};
 use node_step::state::{Entries, Memory};
 use runs::run;
@@ -29,7 +30,7 @@ pub extern "C" fn cavewatch_compile_rule(
     ensures { CompileRule ops.now nums.now first count nodes.old found.old result nodes.new found.new }
 {
     let table = FormulaTable { ops, nums };
-    let answer = compile_formula(&table, first, count, nodes);
+    let answer = compile_formula(&table, Span { first, count }, nodes);
     say(tell_count(answer), found)
 }
 
@@ -67,7 +68,8 @@ pub extern "C" fn cavewatch_fresh(
         failed,
         culprits,
     };
-    let answer = fresh(&tables, part, forms, bounds, &mut memory);
+    let mut blank = Blank { forms, bounds };
+    let answer = fresh(&tables, part, &mut blank, &mut memory);
     tell_made(answer)
 }
 
@@ -249,6 +251,7 @@ pub extern "C" fn cavewatch_restore(
         failed,
         culprits,
     };
-    let answer = restore(&tables, part, forms, bounds, &mut memory, bytes);
+    let mut blank = Blank { forms, bounds };
+    let answer = restore(&tables, part, &mut blank, &mut memory, bytes);
     tell_made(answer)
 }

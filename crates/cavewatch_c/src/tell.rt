@@ -1,13 +1,12 @@
 // Each answer's result as a number, and the further numbers that go to the front of `found`.
 ghost use Rattle.std.specs.Prelude.{◌≡◌};
-ghost use Rattle.reader.specs.Answer as Reading;
+ghost use Rattle.book.specs.Checked as Reading;
 ghost use Rattle.reader.specs.Steps as Steps;
 ghost use Rattle.result.specs.Refusal.{told as result_of};
 ghost use Rattle.cavewatch_c.specs.Numbers.{told, book_told, line_told, count_told, made_told, step_told, run_told};
 ghost use Rattle.cavewatch_c.specs.Said.{told_by, SaysTold, SmallLine};
 
-use book::check::Refused;
-use reader::read::Read;
+use book::check::{Read, Refused};
 use reader::steps::StepLine;
 use result::Refusal;
 
@@ -57,6 +56,7 @@ pub(crate) fn tell_read(answer: Result<Read, Refused>) -> Said
 {
     match answer {
         Ok(read) => Said::Six(
+            // `as`: the number fits, and a `TryFrom` would have an error that cannot be
             read.rules as u64,
             read.nodes as u64,
             read.steps_at as u64,

@@ -17,40 +17,37 @@ use Rattle.formula.specs.Pure.{pure, unless}
 use Rattle.formula.specs.Signal.{Purely}
 use Rattle.std.specs.Prelude.{Some, Ok, Err}
 use Rattle.std.specs.Prelude.{Result as Returned}
-use Rattle.monitor.specs.declared.range.AnchorRange.{AnchorRange}
-use Rattle.compiler.specs.declared.Laid.{Laid}
+use Rattle.compiler.specs.declared.Scope.{Scope}
 use Rattle.monitor.specs.Range.{Shiftable}
 use Rattle.monitor.specs.declared.node.MonNode.{MonNode}
+use Rattle.monitor.specs.declared.node.NodeTape.{NodeTape}
 use Rattle.monitor.specs.Mon.{Check, Mon, check, count, node_of, rows}
 use Rattle.monitor.specs.Compile.{faults, node, rule_faults, rule_node}
 
--- what the walk asks of its place, its range and the output
-pub record CompileReady (ops nums : List ℕ) (i : ℕ) (r : AnchorRange) (out : List ℕ) (at : ℕ) : Type 0 where
+-- what the walk asks of its place, its range and the tape
+pub record CompileReady (ops nums : List ℕ) (i : ℕ) (s : Scope) (tape : NodeTape) : Type 0 where
   pub place : Placed ops nums i
-  pub room : row_cells * (at + size place.formula) ≤ length out
-  pub shift : Shiftable r
+  pub room : row_cells * (tape.at + size place.formula) ≤ length tape.out.now
+  pub shift : Shiftable s.range
 
 -- an implication stands at i, whose left part is pure and ends at j
-pub record Implied (ops nums : List ℕ) (i j : ℕ) (r : AnchorRange) (out : List ℕ) (at : ℕ) : Type 0 where
-  pub ready : CompileReady ops nums i r out at
+pub record Implied (ops nums : List ℕ) (i j : ℕ) (s : Scope) (tape : NodeTape) : Type 0 where
+  pub ready : CompileReady ops nums i s tape
   pub word : get_or ops i 0 ≡ implies_op
   pub left : Purely ops nums (i + 1) (Some j)
 
-abbrev pub laid_to : ℕ → ℕ → Laid
-laid_to n e = record { rows = n; end = e }
+-- with no refusal: where the formula ends, and the nodes' rows laid on the tape. Else the first refusal
+abbrev pub LaidAt : List Refusal → Mon → ℕ → NodeTape → NodeTape → Returned ℕ Refusal → Type 0
+LaidAt [] m e old new r = (r ≡ Ok e) × (new.at ≡ old.at + count m) × (new.out.now ≡ sets old.out.now (row_cells * old.at) (rows m))
+LaidAt (n ∷ ns) m e old new r = r ≡ Err n
 
--- with no refusal: where the nodes and the formula end, and the nodes' rows from row `at` on. Else the first refusal
-abbrev pub LaidAt : List Refusal → Mon → ℕ → ℕ → List ℕ → List ℕ → Returned Laid Refusal → Type 0
-LaidAt [] m at e out out' r = (r ≡ Ok (laid_to (at + count m) e)) × (out' ≡ sets out (row_cells * at) (rows m))
-LaidAt (n ∷ ns) m at e out out' r = r ≡ Err n
+pub record CompiledAt (ops nums : List ℕ) (i : ℕ) (s : Scope) (old new : NodeTape) (r : Returned ℕ Refusal) : Type 0 where
+  pub is : (f : Formula) → Spells (node_at ops nums) i f → LaidAt (faults f s.temporal) (node f i s.range s.temporal) (i + size f) old new r
 
-pub record CompiledAt (ops nums : List ℕ) (i : ℕ) (range : AnchorRange) (temporal : Bool) (out : List ℕ) (at : ℕ) (out' : List ℕ) (r : Returned Laid Refusal) : Type 0 where
-  pub is : (f : Formula) → Spells (node_at ops nums) i f → LaidAt (faults f temporal) (node f i range temporal) at (i + size f) out out' r
-
--- one check stored, where the formula at p, with which the check's own ends, is pure; else refusal n
-pub record CheckLaid (ops nums : List ℕ) (p : ℕ) (n : Refusal) (out : List ℕ) (at : ℕ) (row : MonNode) (out' : List ℕ) (r : Returned Laid Refusal) : Type 0 where
+-- one check laid, where the formula at p, with which the check's own ends, is pure; else refusal n
+pub record CheckLaid (ops nums : List ℕ) (p : ℕ) (n : Refusal) (old : NodeTape) (row : MonNode) (new : NodeTape) (r : Returned ℕ Refusal) : Type 0 where
   pub is : (c : Check) → row ≡ node_of c → (g : Formula) → Spells (node_at ops nums) p g
-      → LaidAt (unless (pure g) n) (check c) at (p + size g) out out' r
+      → LaidAt (unless (pure g) n) (check c) (p + size g) old new r
 
 -- ---- the whole call
 pub record Call : Type 0 where

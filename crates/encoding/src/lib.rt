@@ -4,10 +4,11 @@
 ghost use Rattle.std.specs.Prelude.{◌≡◌, ◌^◌, ◌<◌, ◌≤◌, length, take};
 ghost use Rattle.std.proofs.lemmas.List.Edits.{sets};
 ghost use Rattle.terms.specs.Limits.{book_slots, state_counts};
-ghost use Rattle.plan.specs.Book.{listed, is_zero, part_bits, Rowed};
+ghost use Rattle.plan.specs.Book.{listed};
+ghost use Rattle.plan.specs.Lists.{compiles, own_bits, RulesRowed};
 ghost use Rattle.encoding.specs.Encoding.{slot_from, encoding_by, narrow, opening, Widths, StateSum, SlotSum, MonitorSum};
 
-use plan::layout::{RuleList, ceil_log2, kind_bits};
+use plan::layout::{RuleList, ceil_log2};
 use terms::limit::{BOOK_SLOTS, SLOT_MOST, STATES};
 
 // The bits of the state, of all slots, of all monitors and of the whole, and the whole in bytes.
@@ -20,42 +21,69 @@ pub struct ConfigEncoding {
     pub total_bytes: u64,
 }
 
-// The bits of a state among so many.
-pub fn state_bits(count: u64) -> u64
-    requires { count < state_counts }
-    ensures { StateSum count result }
-{
-    ceil_log2(count)
+// What a book opens with: a count of states, and slots, whose widths are the first of a lent list.
+#[derive(Clone, Copy)]
+pub struct Opening<'a> {
+    pub states: u64,
+    pub widths: &'a [u64],
+    pub slots: usize,
 }
 
-// The bits of the first m slots.
-pub fn slot_bits(widths: &[u64], m: usize) -> u64
-    requires { Widths widths.now m }
-    ensures { SlotSum (take m widths.now) m result }
-{
-    widths[..m].iter().sum()
-}
+impl Opening<'_> {
+    // The bits of a state among so many.
+    pub fn state_bits(&self) -> u64
+        requires { self.now.states < state_counts }
+        ensures { StateSum self.now.states result }
+    {
+        ceil_log2(self.states)
+    }
 
-// Where each of the first m slots begins, the first of them at bit `base`.
-pub fn place_slots(widths: &[u64], m: usize, base: u64, places: &mut [u64])
-    requires { (Widths widths.now m) × ((m ≤ length places.old) × (base < 2 ^ 60)) }
-    ensures { places.new ≡ sets places.old 0 (listed (slot_from base (take m widths.now)) m) }
-{
-    let mut place = base;
-    // a place in two lists at once, so the loop counts it
-    for k in 0..m {
-        places[k] = place;
-        place += widths[k];
+    // The bits of the slots.
+    pub fn slot_bits(&self) -> u64
+        requires { Widths self.now.widths.now self.now.slots }
+        ensures { SlotSum (take self.now.slots self.now.widths.now) self.now.slots result }
+    {
+        self.widths[..self.slots].iter().sum()
+    }
+
+    // Where each slot begins, the first of them at bit `base`.
+    pub fn place_slots(&self, base: u64, places: &mut [u64])
+        requires { (Widths self.now.widths.now self.now.slots) × ((self.now.slots ≤ length places.old) × (base < 2 ^ 60)) }
+        ensures { places.new ≡ sets places.old 0 (listed (slot_from base (take self.now.slots self.now.widths.now)) self.now.slots) }
+    {
+        let mut place = base;
+        // a place in two lists at once, so the loop counts it
+        for k in 0..self.slots {
+            places[k] = place;
+            place += self.widths[k];
+        }
+    }
+
+    // Whether each width is at most 64.
+    fn is_narrow(&self) -> bool
+        requires { self.now.slots ≤ length self.now.widths.now }
+        ensures { result ≡ narrow self.now.widths.now self.now.slots }
+    {
+        self.widths[..self.slots].iter().all(|w| *w <= SLOT_MOST)
+    }
+
+    // Whether a book may open with it.
+    #[tactic(auto, unfolding(crate::specs::Encoding::opening))]
+    pub fn is_allowed(&self) -> bool
+        requires { book_slots ≤ length self.now.widths.now }
+        ensures { result ≡ opening self.now.states self.now.widths.now self.now.slots }
+    {
+        self.states < STATES && self.slots <= BOOK_SLOTS && self.is_narrow()
     }
 }
 
 // The bits of all rules that compile.
-pub fn monitor_bits(rules: &RuleList, nodes: &[u64], n: usize) -> u64
-    requires { Rowed rules.now.kinds.now rules.now.refusals.now nodes.now rules.now.nfirsts.now rules.now.ncounts.now n }
-    ensures { MonitorSum n (is_zero rules.now.refusals.now) (part_bits nodes.now rules.now.nfirsts.now rules.now.ncounts.now) result }
+pub fn monitor_bits(rules: &RuleList) -> u64
+    requires { RulesRowed rules.now }
+    ensures { MonitorSum rules.now.len (compiles rules.now) (own_bits rules.now) result }
 {
-    let properties = kind_bits(rules, nodes, n, true);
-    let assumptions = kind_bits(rules, nodes, n, false);
+    let properties = rules.kind_bits(true);
+    let assumptions = rules.kind_bits(false);
     properties + assumptions
 }
 
@@ -72,21 +100,4 @@ pub fn encoding_of(state: u64, vars: u64, monitors: u64) -> ConfigEncoding
         total_bits,
         total_bytes: (total_bits + 7) / 8,
     }
-}
-
-// Whether each of the first m widths is at most 64.
-fn are_narrow(widths: &[u64], m: usize) -> bool
-    requires { m ≤ length widths.now }
-    ensures { result ≡ narrow widths.now m }
-{
-    widths[..m].iter().all(|w| *w <= SLOT_MOST)
-}
-
-// Whether a book may open with a count of states and m slots of these widths.
-#[tactic(auto, unfolding(crate::specs::Encoding::opening))]
-pub fn is_opening(count: u64, widths: &[u64], m: usize) -> bool
-    requires { book_slots ≤ length widths.now }
-    ensures { result ≡ opening count widths.now m }
-{
-    count < STATES && m <= BOOK_SLOTS && are_narrow(widths, m)
 }

@@ -18,7 +18,7 @@ fn truth(word: u64, n: u64) -> bool
 }
 
 // A signal's value, and where the formula ends.
-#[derive(Clone, Copy)]
+#[derive(Clone, Copy, Debug, PartialEq, Eq)]
 pub struct Value {
     pub value: bool,
     pub end: usize,

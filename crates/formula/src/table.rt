@@ -13,6 +13,13 @@ pub struct FormulaTable<'a> {
     pub nums: &'a [u64],
 }
 
+// Where a rule's formula stands in a table: its first place, and how many nodes it has.
+#[derive(Clone, Copy, Debug, PartialEq, Eq)]
+pub struct Span {
+    pub first: usize,
+    pub count: usize,
+}
+
 impl FormulaTable<'_> {
     // Where the formula at i ends, if it ends by `end` and is at most `room` deep.
     fn tree_at(&self, i: usize, end: usize, room: usize) -> Option<usize>
@@ -44,23 +51,23 @@ impl FormulaTable<'_> {
     }
 
     // Whether a rule's part of the table is a formula within the limits.
-    pub fn is_rule(&self, first: usize, count: usize) -> bool
-        ensures { result ≡ is_some (rule_of self.now.ops.now self.now.nums.now first count) }
+    pub fn is_rule(&self, span: Span) -> bool
+        ensures { result ≡ is_some (rule_of self.now.ops.now self.now.nums.now span.first span.count) }
     {
-        if RULE_NODES < count {
+        if RULE_NODES < span.count {
             return false;
         }
-        if BOOK_NODES - count < first {
+        if BOOK_NODES - span.count < span.first {
             return false;
         }
-        let end = first + count;
+        let end = span.first + span.count;
         if self.ops.len() < end {
             return false;
         }
         if self.nums.len() < end {
             return false;
         }
-        self.tree_at(first, end, DEEPEST) == Some(end)
+        self.tree_at(span.first, end, DEEPEST) == Some(end)
     }
 
     // Whether the lent slices have room for 1,024 nodes.

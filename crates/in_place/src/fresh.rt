@@ -1,9 +1,10 @@
-// A fresh monitor of a compiled rule: by value, and in place.
+// A fresh monitor of a compiled rule: by value, and in place, the two forms that document 01 has for a monitor struct.
 ghost use Rattle.std.specs.Prelude.{◌≡◌};
 ghost use Rattle.lent.specs.Lists.{tables_of};
 ghost use Rattle.in_place.specs.InPlace.{fresh_in};
 
 use crate::ReferenceMonitor;
+use lent::Blank;
 use monitor::table::{Part, Tables};
 use node_step::state::Memory;
 use result::Refusal;
@@ -26,13 +27,11 @@ pub fn made(m: ReferenceMonitor, tables: &Tables, part: Part) -> Started
         failed: &mut monitor.failed,
         culprits: &mut monitor.culprits,
     };
-    let outcome = stepping::fresh::fresh(
-        tables,
-        part,
-        &mut monitor.forms,
-        &mut monitor.bounds,
-        &mut memory,
-    );
+    let mut blank = Blank {
+        forms: &mut monitor.forms,
+        bounds: &mut monitor.bounds,
+    };
+    let outcome = stepping::fresh::fresh(tables, part, &mut blank, &mut memory);
     monitor.size = outcome.unwrap_or(m.size);
     Started { monitor, outcome }
 }

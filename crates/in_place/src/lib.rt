@@ -6,7 +6,8 @@ pub mod step;
 
 use terms::limit::RULE_NODES;
 
-// The count of its nodes, and for each node its form, its bound and its state (crates/node_step, `MonState`).
+// The count of its nodes, and for each node its form, its bound and its state (crates/node_step, `MonState`). Memory is fixed, so the count stands
+// beside arrays of the largest size.
 #[derive(Clone, Copy, Debug, PartialEq, Eq)]
 pub struct ReferenceMonitor {
     pub size: usize,

@@ -19,6 +19,7 @@ pub fn read_full<R: Read>(input: &mut R, buf: &mut [u8]) -> io::Result<usize>
     ensures whole { IfOk result (λ n. n < length buf.new → IsAtEnd (R.remaining input.new)) }
 {
     let mut done = 0usize;
+    // an input gives as many bytes as it likes, so the loop moves by what each read gave
     while done < buf.len() {
         let n = input.read(&mut buf[done..])?;
         if n == 0 {

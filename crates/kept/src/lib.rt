@@ -8,7 +8,7 @@ ghost use Rattle.monitor.specs.Table.{row_of};
 ghost use Rattle.kept.specs.Kept.{keep_node, keep_row, window_bits, keep_width, keep_entry, window_entry, entry_sound, keep_spent, PutKept, Space};
 
 use bits::{bit_at, number_at, put_bit, put_number};
-use monitor::node::{MonNode, row_at};
+use monitor::node::{MonNode, Rows};
 use node_step::state::{MonState, initial_state};
 use plan::layout::width_of;
 
@@ -31,12 +31,12 @@ impl Keep {
         }
     }
 
-    // What the node in row i keeps.
-    pub fn at(nodes: &[u64], i: usize) -> Keep
-        requires { row_cells * (i + 1) ≤ length nodes.now }
-        ensures { result ≡ keep_row (row_of nodes.now i) }
+    // What the node in row k keeps.
+    pub fn at(rows: &Rows, k: usize) -> Keep
+        requires { row_cells * (rows.now.first + k + 1) ≤ length rows.now.nodes.now }
+        ensures { result ≡ keep_row (row_of rows.now.nodes.now (rows.now.first + k)) }
     {
-        let Some(node) = row_at(nodes, i) else {
+        let Some(node) = rows.at(k) else {
             return Keep::Nothing;
         };
         Keep::of(node)
@@ -108,6 +108,7 @@ fn window_bits(b: u64) -> usize
     if b == 0 {
         return 0;
     }
+    // `as`: the number fits, and a `TryFrom` would have an error that cannot be
     1 + width_of(b) as usize
 }
 

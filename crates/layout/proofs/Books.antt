@@ -12,6 +12,7 @@ use lib.Seq.{sets, length-take-le}
 use Rattle.terms.specs.Choice.{pick}
 use Rattle.result.specs.Result.{given, refused}
 use Rattle.formula.specs.Formula.{Formula}
+use Rattle.formula.specs.declared.table.Span.{Span}
 use Rattle.formula.specs.Table.{is_some, rule_of}
 use Rattle.formula.proofs.Rules.{both_long}
 use Rattle.formula.proofs.Cases.{true_false}
@@ -55,31 +56,31 @@ module _ (k r f c nf nc : List ℕ) where
 
 -- ---- each rule is compiled as its flag says
 -- what the compiler answers, for a rule in a table with room
-module _ (ops nums : List ℕ) (first count : ℕ) (k : ℕ) (m : Option Mon) (g : 1024 ≤ length ops) (h : 1024 ≤ length nums) (q : Bool) (z : q ≡ is_some (rule_of ops nums first count)) (y : q ≡ true) (out : List ℕ) (l : 1792 ≤ length out) (a : Returned ℕ Refusal) (out' : List ℕ) (w : Answers (compile_call ops nums first count out) a out') where
-  the_rule : (f : Formula) × (rule_of ops nums first count ≡ some f)
-  the_rule = go (rule_of ops nums first count) refl (sym z ∙ y)
+module _ (ops nums : List ℕ) (p : Span) (first count : ℕ) (s : p ≡ record { first = first; count = count }) (k : ℕ) (m : Option Mon) (g : 1024 ≤ length ops) (h : 1024 ≤ length nums) (q : Bool) (z : q ≡ is_some (rule_of ops nums p.first p.count)) (y : q ≡ true) (out : List ℕ) (l : 1792 ≤ length out) (a : Returned ℕ Refusal) (out' : List ℕ) (w : Answers (compile_call ops nums p.first p.count out) a out') where
+  the_rule : (f : Formula) × (rule_of ops nums p.first p.count ≡ some f)
+  the_rule = go (rule_of ops nums p.first p.count) refl (sym z ∙ y)
     where
-      go : (o : Option Formula) → rule_of ops nums first count ≡ o → is_some o ≡ true → (f : Formula) × (rule_of ops nums first count ≡ some f)
+      go : (o : Option Formula) → rule_of ops nums p.first p.count ≡ o → is_some o ≡ true → (f : Formula) × (rule_of ops nums p.first p.count ≡ some f)
       go none e x = true_false x refl
       go (some f) e x = (f, e)
 
-  called : compile_call ops nums first count out ≡ first_or (rule_faults the_rule.0) (rule_node the_rule.0 first) out
+  called : compile_call ops nums p.first p.count out ≡ first_or (rule_faults the_rule.0) (rule_node the_rule.0 p.first) out
   unfolding compile_call
   called =
-      ap₂ (λ (x y : Bool). or_short (x && y) out (rule_call ops nums first count out)) (sym (both_long ops nums g h)) (le-leb 1792 (length out) l)
-      ∙ ap (λ (o : Option Formula). compile_formula o first out) the_rule.1
+      ap₂ (λ (x y : Bool). or_short (x && y) out (rule_call ops nums p.first p.count out)) (sym (both_long ops nums g h)) (le-leb 1792 (length out) l)
+      ∙ ap (λ (o : Option Formula). compile_formula o p.first out) the_rule.1
 
-  answered : told a ≡ (first_or (rule_faults the_rule.0) (rule_node the_rule.0 first) out).answer
+  answered : told a ≡ (first_or (rule_faults the_rule.0) (rule_node the_rule.0 p.first) out).answer
   answered = w.answers ∙ ap (λ (c : Call). c.answer) called
 
   by_faults : fine (rule_of ops nums first count) k m ≡ agrees (rule_faults the_rule.0) k m
-  by_faults = ap (λ (o : Option Formula). fine o k m) the_rule.1
+  by_faults = ap (λ (x : Span). fine (rule_of ops nums x.first x.count) k m) (sym s) ∙ ap (λ (o : Option Formula). fine o k m) the_rule.1
 
   module _ (n : ℕ) (x : a ≡ Ok n) where
     compiles : rule_faults the_rule.0 ≡ []
     compiles = go (rule_faults the_rule.0) refl (sym (ap told x) ∙ answered)
       where
-        go : (fs : List Refusal) → rule_faults the_rule.0 ≡ fs → given n ≡ (first_or fs (rule_node the_rule.0 first) out).answer → rule_faults the_rule.0 ≡ []
+        go : (fs : List Refusal) → rule_faults the_rule.0 ≡ fs → given n ≡ (first_or fs (rule_node the_rule.0 p.first) out).answer → rule_faults the_rule.0 ≡ []
         go [] e v = e
         go (j ∷ js) e v = let t : ◌≡◌ {A = ℕ} 0 1 = cc in absurd (omega arith)
 
@@ -93,7 +94,7 @@ module _ (ops nums : List ℕ) (first count : ℕ) (k : ℕ) (m : Option Mon) (g
     refuses : agrees (rule_faults the_rule.0) k m ≡ (not (eqb k 0) && eqb k (number_of n))
     refuses = go (rule_faults the_rule.0) (sym (ap told x) ∙ answered)
       where
-        go : (fs : List Refusal) → refused (number_of n) ≡ (first_or fs (rule_node the_rule.0 first) out).answer → agrees fs k m ≡ (not (eqb k 0) && eqb k (number_of n))
+        go : (fs : List Refusal) → refused (number_of n) ≡ (first_or fs (rule_node the_rule.0 p.first) out).answer → agrees fs k m ≡ (not (eqb k 0) && eqb k (number_of n))
         go [] v = let t : ◌≡◌ {A = ℕ} 0 1 = cc in absurd (omega arith)
         go (j ∷ js) v = let t : number_of n ≡ number_of j = cc in ap (λ (i : ℕ). not (eqb k 0) && eqb k i) (sym t)
 

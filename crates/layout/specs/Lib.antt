@@ -1,2 +1,3 @@
 -- What the layout calls answer.
 pub mod Entry
+pub mod Lists

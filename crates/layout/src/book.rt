@@ -1,17 +1,17 @@
 // The layout of a book: the first bits of its slots, the first bits and bits of its rules, and the numbers of the whole.
 ghost use Rattle.std.specs.Prelude.{◌≡◌, ◌<◌, ◌≤◌, length};
-ghost use Rattle.terms.specs.Limits.{book_rules, book_slots};
+ghost use Rattle.terms.specs.Limits.{book_nodes, book_rules, book_slots};
 ghost use Rattle.result.specs.Refusal.{told};
+ghost use Rattle.monitor.specs.Tables.{rule_in, compiled_in};
 ghost use Rattle.encoding.specs.Below.{all_below};
-ghost use Rattle.layout.specs.Entry.{roomy_rules, roomy_tables, roomy_outputs, rule_at, mon_at, fine_of, sound, outcome, layout_of, InRules, InRulesUpto, Layable, Laid};
+ghost use Rattle.plan.specs.Lists.{SameBits};
+ghost use Rattle.layout.specs.Entry.{roomy_rules, roomy_tables, roomy_outputs, fine, sound, outcome, layout_of, InRules, Layable, Laid};
+ghost use Rattle.layout.specs.Lists.{formula_of, mon_of, fine_in, RulesWithin};
 
-use crate::rule::is_wide;
 use compiler::compile_formula;
-use encoding::{
-    ConfigEncoding, encoding_of, is_opening, monitor_bits, place_slots, slot_bits, state_bits,
-};
+use encoding::{ConfigEncoding, Opening, encoding_of, monitor_bits};
 use monitor::table::{Part, Tables};
-use plan::layout::{RuleList, arrange};
+use plan::layout::{RuleBits, RuleList};
 use result::Refusal;
 use terms::limit::{BOOK_RULES, BOOK_SLOTS, NODE_CELLS};
 
@@ -29,11 +29,12 @@ fn rules_fit(rules: &RuleList) -> bool
 }
 
 // Whether each table and list has room: for 1,024 formula nodes, 256 monitor nodes, 64 rules and 32 slots.
-fn tables_fit(tables: &Tables, rules: &RuleList, widths: &[u64]) -> bool
-    ensures { result ≡ roomy_tables tables.now.formulas.ops.now tables.now.formulas.nums.now tables.now.nodes.now rules.now.kinds.now rules.now.refusals.now
+fn tables_fit(rules: &RuleList, widths: &[u64]) -> bool
+    ensures { result ≡ roomy_tables rules.now.tables.formulas.ops.now rules.now.tables.formulas.nums.now rules.now.tables.nodes.now
+        rules.now.kinds.now rules.now.refusals.now
         rules.now.firsts.now rules.now.counts.now rules.now.nfirsts.now rules.now.ncounts.now widths.now }
 {
-    is_wide(tables) && rules_fit(rules) && BOOK_SLOTS <= widths.len()
+    rules.tables.is_roomy() && rules_fit(rules) && BOOK_SLOTS <= widths.len()
 }
 
 // Whether outputs of these lengths have room for 64 rules and 32 slots.
@@ -43,133 +44,97 @@ fn outputs_fit(starts: usize, bits: usize, places: usize) -> bool
     BOOK_RULES <= starts && BOOK_RULES <= bits && BOOK_SLOTS <= places
 }
 
-// Whether rule r is compiled as its flag says: in the lent list 0, or the number of its refusal.
-fn fine_at(tables: &Tables, rules: &RuleList, r: usize) -> bool
-    requires { InRules tables.now.formulas.ops.now tables.now.formulas.nums.now rules.now.refusals.now rules.now.firsts.now rules.now.counts.now rules.now.nfirsts.now rules.now.ncounts.now r }
-    ensures { result ≡ fine_of
-        (rule_at tables.now.formulas.ops.now tables.now.formulas.nums.now rules.now.firsts.now rules.now.counts.now)
-        rules.now.refusals.now
-        (mon_at tables.now.formulas.ops.now tables.now.formulas.nums.now rules.now.firsts.now rules.now.counts.now
-        tables.now.nodes.now rules.now.nfirsts.now rules.now.ncounts.now) r }
+// Whether a rule is compiled as its flag says: 0, or the number of its refusal.
+fn is_flagged(tables: &Tables, part: Part, flag: u64) -> bool
+    requires { (book_nodes ≤ length tables.now.formulas.ops.now) × (book_nodes ≤ length tables.now.formulas.nums.now) }
+    ensures { result ≡ fine (rule_in tables.now part) flag (compiled_in tables.now part) }
 {
-    let part = Part {
-        first: rules.firsts[r],
-        count: rules.counts[r],
-        nfirst: rules.nfirsts[r],
-        ncount: rules.ncounts[r],
-    };
-    let flag = rules.refusals[r];
-    if !tables.formulas.is_rule(part.first, part.count) {
+    let span = part.formula();
+    if !tables.formulas.is_rule(span) {
         return false;
     }
     let mut aside = [0u64; NODE_CELLS];
-    match compile_formula(&tables.formulas, part.first, part.count, &mut aside) {
+    match compile_formula(&tables.formulas, span, &mut aside) {
         Ok(_) => flag == 0 && tables.is_compiled(part),
         Err(refusal) => flag != 0 && flag == u64::from(refusal),
     }
 }
 
-// Whether each of n rules is compiled as its flag says.
-fn all_fine(tables: &Tables, rules: &RuleList, n: usize) -> bool
-    requires { InRulesUpto tables.now.formulas.ops.now tables.now.formulas.nums.now rules.now.refusals.now rules.now.firsts.now rules.now.counts.now rules.now.nfirsts.now rules.now.ncounts.now n }
-    ensures { result ≡ all_below (fine_of
-        (rule_at tables.now.formulas.ops.now tables.now.formulas.nums.now rules.now.firsts.now rules.now.counts.now)
-        rules.now.refusals.now
-        (mon_at tables.now.formulas.ops.now tables.now.formulas.nums.now rules.now.firsts.now rules.now.counts.now
-        tables.now.nodes.now rules.now.nfirsts.now rules.now.ncounts.now)) n }
+// Whether rule r is compiled as its flag in the lent list says.
+fn fine_at(rules: &RuleList, r: usize) -> bool
+    requires { InRules rules.now.tables.formulas.ops.now rules.now.tables.formulas.nums.now rules.now.refusals.now rules.now.firsts.now
+        rules.now.counts.now rules.now.nfirsts.now rules.now.ncounts.now r }
+    ensures { result ≡ fine_in rules.now r }
 {
-    for r in 0..n {
-        if !fine_at(tables, rules, r) {
+    is_flagged(&rules.tables, rules.part(r), rules.refusals[r])
+}
+
+// Whether each rule is compiled as its flag says.
+fn all_fine(rules: &RuleList) -> bool
+    requires { RulesWithin rules.now rules.now.len }
+    ensures { result ≡ all_below (fine_in rules.now) rules.now.len }
+{
+    for r in 0..rules.len {
+        if !fine_at(rules, r) {
             return false;
         }
     }
     true
 }
 
-// Whether a book may open with these, has at most 64 rules, and each is compiled as its flag says.
-fn is_sound(
-    tables: &Tables,
-    rules: &RuleList,
-    n: usize,
-    states: u64,
-    widths: &[u64],
-    m: usize,
-) -> bool
-    requires { (InRulesUpto tables.now.formulas.ops.now tables.now.formulas.nums.now rules.now.refusals.now rules.now.firsts.now rules.now.counts.now rules.now.nfirsts.now rules.now.ncounts.now book_rules)
-        × (book_slots ≤ length widths.now) }
-    ensures { result ≡ sound states widths.now m
-        (rule_at tables.now.formulas.ops.now tables.now.formulas.nums.now rules.now.firsts.now rules.now.counts.now)
-        rules.now.refusals.now
-        (mon_at tables.now.formulas.ops.now tables.now.formulas.nums.now rules.now.firsts.now rules.now.counts.now
-        tables.now.nodes.now rules.now.nfirsts.now rules.now.ncounts.now) n }
+// Whether a book may open so, has at most 64 rules, and each is compiled as its flag says.
+fn is_sound(rules: &RuleList, opening: &Opening) -> bool
+    requires { (RulesWithin rules.now book_rules) × (book_slots ≤ length opening.now.widths.now) }
+    ensures { result ≡ sound opening.now.states opening.now.widths.now opening.now.slots
+        (formula_of rules.now) rules.now.refusals.now (mon_of rules.now) rules.now.len }
 {
-    is_opening(states, widths, m) && n <= BOOK_RULES && all_fine(tables, rules, n)
+    opening.is_allowed() && rules.len <= BOOK_RULES && all_fine(rules)
 }
 
-// The state from bit 0 on, then m slots, then n rules by the rows of the node table.
+// The state from bit 0 on, then the slots, then the rules by the rows of the node table.
 fn lay(
-    nodes: &[u64],
     rules: &RuleList,
-    n: usize,
-    states: u64,
-    widths: &[u64],
-    m: usize,
-    starts: &mut [u64],
-    bits: &mut [u64],
+    opening: &Opening,
+    out: &mut RuleBits,
     places: &mut [u64],
 ) -> ConfigEncoding
-    requires { Layable rules.now.kinds.now rules.now.refusals.now nodes.now rules.now.nfirsts.now rules.now.ncounts.now n states widths.now m starts.old bits.old places.old }
-    ensures { Laid rules.now.kinds.now rules.now.refusals.now nodes.now rules.now.nfirsts.now rules.now.ncounts.now n
-        states widths.now m starts.old starts.new bits.old bits.new
+    requires { Layable rules.now.kinds.now rules.now.refusals.now rules.now.tables.nodes.now rules.now.nfirsts.now rules.now.ncounts.now rules.now.len
+        opening.now.states opening.now.widths.now opening.now.slots out.old.starts.now out.old.bits.now places.old }
+    ensures laid { Laid rules.now.kinds.now rules.now.refusals.now rules.now.tables.nodes.now rules.now.nfirsts.now rules.now.ncounts.now rules.now.len
+        opening.now.states opening.now.widths.now opening.now.slots out.old.starts.now out.new.starts.now out.old.bits.now out.new.bits.now
         places.old places.new result }
+    ensures same { SameBits out.old out.new }
 {
-    let state = state_bits(states);
-    let vars = slot_bits(widths, m);
-    let base = state + vars;
-    place_slots(widths, m, state, places);
-    arrange(rules, nodes, n, base, starts, bits);
-    let monitors = monitor_bits(rules, nodes, n);
-    encoding_of(state, vars, monitors)
+    let state = opening.state_bits();
+    let vars = opening.slot_bits();
+    opening.place_slots(state, places);
+    rules.arrange(state + vars, out);
+    encoding_of(state, vars, monitor_bits(rules))
 }
 
-// First bits of m slots, first bits and bits of n rules: the state from bit 0 on, then the slots, then the properties, then the assumptions,
+// First bits of the slots, first bits and bits of the rules: the state from bit 0 on, then the slots, then the properties, then the assumptions,
 // each in book order.
 pub fn layout(
-    tables: &Tables,
     rules: &RuleList,
-    n: usize,
-    states: u64,
-    widths: &[u64],
-    m: usize,
-    starts: &mut [u64],
-    bits: &mut [u64],
+    opening: &Opening,
+    out: &mut RuleBits,
     places: &mut [u64],
 ) -> Result<ConfigEncoding, Refusal>
-    ensures { outcome (told result) starts.new bits.new places.new ≡ layout_of
-        tables.now.formulas.ops.now tables.now.formulas.nums.now rules.now.firsts.now rules.now.counts.now
-        tables.now.nodes.now rules.now.nfirsts.now rules.now.ncounts.now
-        rules.now.kinds.now rules.now.refusals.now n states widths.now m
-        starts.old bits.old places.old }
+    ensures laid { outcome (told result) out.new.starts.now out.new.bits.now places.new ≡ layout_of
+        rules.now.tables.formulas.ops.now rules.now.tables.formulas.nums.now rules.now.firsts.now rules.now.counts.now
+        rules.now.tables.nodes.now rules.now.nfirsts.now rules.now.ncounts.now
+        rules.now.kinds.now rules.now.refusals.now rules.now.len opening.now.states opening.now.widths.now opening.now.slots
+        out.old.starts.now out.old.bits.now places.old }
+    ensures same { SameBits out.old out.new }
 {
-    if !tables_fit(tables, rules, widths) {
+    if !tables_fit(rules, opening.widths) {
         return Err(Refusal::Short);
     }
-    if !outputs_fit(starts.len(), bits.len(), places.len()) {
+    if !outputs_fit(out.starts.len(), out.bits.len(), places.len()) {
         return Err(Refusal::Short);
     }
-    if !is_sound(tables, rules, n, states, widths, m) {
+    if !is_sound(rules, opening) {
         return Err(Refusal::Unfit);
     }
-    let numbers = lay(
-        tables.nodes,
-        rules,
-        n,
-        states,
-        widths,
-        m,
-        starts,
-        bits,
-        places,
-    );
-    Ok(numbers)
+    Ok(lay(rules, opening, out, places))
 }

@@ -1,5 +1,5 @@
-// The calls over a lent table of node structs and a lent monitor, for callers that hold both by value: each copies them to locals, lends the locals
-// for one call, and hands the monitor back.
+// The calls over a lent table of node structs and a lent monitor, for callers that hold both by value: each lends its own for one call, and hands
+// the monitor back.
 #![tactic(auto)]
 
 ghost use Rattle.std.specs.Prelude.{◌≡◌};
@@ -7,8 +7,9 @@ ghost use Rattle.compiler.specs.Compiled.{Answers, compile_call};
 ghost use Rattle.in_place.specs.InPlace.{fresh_in, step_in};
 ghost use Rattle.node_table.specs.Node.{ops_of, nums_of};
 ghost use Rattle.split.specs.Held.{outcome, splitting};
-ghost use Rattle.table_step.specs.Over.{tables_over};
+ghost use Rattle.table_step.specs.Over.{part_over};
 
+use formula::table::Span;
 use in_place::ReferenceMonitor;
 use in_place::fresh::Started;
 use in_place::step::Advanced;
@@ -29,7 +30,7 @@ pub fn step_over(
     s: u64,
     w: u64,
 ) -> Advanced
-    ensures { result ≡ step_in (tables_over table part.first part.count nodes.now part.nfirst part.ncount) m s w }
+    ensures { result ≡ step_in (part_over table nodes.now part) m s w }
 {
     let verdict = step_table(&mut m, &table, nodes, part, s, w);
     Advanced {
@@ -45,7 +46,7 @@ pub fn fresh_over(
     nodes: &[u64],
     part: Part,
 ) -> Started
-    ensures { result ≡ fresh_in (tables_over table part.first part.count nodes.now part.nfirst part.ncount) m }
+    ensures { result ≡ fresh_in (part_over table nodes.now part) m }
 {
     let outcome = fresh_table(&mut m, &table, nodes, part);
     Started {
@@ -57,26 +58,24 @@ pub fn fresh_over(
 // Compiles a rule of a table of node structs.
 pub fn compile_over(
     table: [FormulaNode; BOOK_NODES],
-    first: usize,
-    count: usize,
+    span: Span,
     out: &mut [u64],
 ) -> Result<usize, Refusal>
-    ensures { Answers (compile_call (ops_of table) (nums_of table) first count out.old) result out.new }
+    ensures { Answers (compile_call (ops_of table) (nums_of table) span.first span.count out.old) result out.new }
 {
-    compile_table(&table, first, count, out)
+    compile_table(&table, span, out)
 }
 
 // Splits a rule of a table of node structs.
 pub fn split_over(
     table: [FormulaNode; BOOK_NODES],
-    first: usize,
-    count: usize,
+    span: Span,
     assumed: bool,
     skeleton: &mut [u64],
     owed: &mut [u64],
 ) -> Result<Option<Parts>, Refusal>
     ensures { outcome result skeleton.new owed.new
-        ≡ splitting (ops_of table) (nums_of table) first count assumed skeleton.old owed.old }
+        ≡ splitting (ops_of table) (nums_of table) span.first span.count assumed skeleton.old owed.old }
 {
-    split_table(&table, first, count, assumed, skeleton, owed)
+    split_table(&table, span, assumed, skeleton, owed)
 }

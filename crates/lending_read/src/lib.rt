@@ -1,15 +1,17 @@
-// Reading a book over a lent table of node structs, for callers that hold the table by value: the table is copied to a local, the local is lent
-// for the call of `read_table`, and it is handed back.
+// Reading a book over a lent table of node structs, for callers that hold the table by value: it is lent for the call of `read_table`,
+// and handed back.
 #![tactic(auto)]
 
 ghost use Rattle.node_table.specs.Node.{ops_of, nums_of};
 ghost use Rattle.reader.specs.Answer.{Reads};
-ghost use Rattle.reader.specs.BookTables.{columns, slot_columns};
+ghost use Rattle.reader.specs.Lists.{slots_in, SameSlots};
+ghost use Rattle.table_read.specs.Filling.{with_table};
+ghost use Rattle.table_read.specs.Lists.{rules_in, SameRules};
 
-use book::check::Refused;
+use book::check::{Read, Refused};
 use node_table::FormulaNode;
-use reader::read::Read;
-use table_read::read_table;
+use reader::tables::SlotTables;
+use table_read::{RuleTables, read_table};
 use terms::limit::BOOK_NODES;
 
 // The answer, and the table as reading leaves it.
@@ -22,24 +24,16 @@ pub struct ReadOver {
 // Reads a book: its rules into the rule list, its nodes into the table's front, its slots into the slot list.
 pub fn read_over(
     text: &[u8],
-    labels: &mut [u8],
-    lens: &mut [usize],
-    kinds: &mut [u8],
-    firsts: &mut [usize],
-    counts: &mut [usize],
+    rules: &mut RuleTables,
     mut table: [FormulaNode; BOOK_NODES],
-    names: &mut [u8],
-    sizes: &mut [usize],
-    widths: &mut [u64],
+    slots: &mut SlotTables,
 ) -> ReadOver
-    ensures { Reads text.now
-        (columns labels.old lens.old kinds.old firsts.old counts.old (ops_of table)
-        (nums_of table)) (slot_columns names.old sizes.old widths.old) result.answer
-        (columns labels.new lens.new kinds.new firsts.new counts.new
-        (ops_of result.table) (nums_of result.table)) (slot_columns names.new sizes.new widths.new) }
+    ensures read { Reads text.now
+        (with_table (rules_in rules.old) (ops_of table) (nums_of table)) (slots_in slots.old) result.answer
+        (with_table (rules_in rules.new) (ops_of result.table) (nums_of result.table)) (slots_in slots.new) }
+    ensures same_rules { SameRules rules.old rules.new }
+    ensures same_slots { SameSlots slots.old slots.new }
 {
-    let answer = read_table(
-        text, labels, lens, kinds, firsts, counts, &mut table, names, sizes, widths,
-    );
+    let answer = read_table(text, rules, &mut table, slots);
     ReadOver { answer, table }
 }

@@ -2,7 +2,7 @@
 -- (refusal 2). Whether a monitor fits depends on the compiled rule, and not on the table that holds it.
 --     HoldsRule    tables that a call on a monitor of rule m may be lent
 --     Ready        a monitor that a call over such tables takes, below 2^63
---     refusal_of    1, then 2, of what a call on a monitor is lent
+--     refusal_of    1, then 2, of what a call on a monitor is lent; refusal_to_make of what a call is lent that makes one
 use Rattle.std.specs.Prelude.{Bool, true, ◌&&◌, List, ◌≡◌, ℕ, ◌+◌, ◌*◌, ◌≤◌, eqb, leb, length}
 use Rattle.std.specs.Prelude.{None, Option as Opt, Some}
 use Rattle.std.proofs.Math.Option.{Option, none, some}
@@ -90,6 +90,14 @@ unfit (some m) k = pick (fits m k) None (Some Unfit)
 
 unfoldable pub refusal_of : LentTables → LentMonitor → Opt Refusal
 refusal_of t k = pick (is_lent t k) (unfit (rule_mon t) k) (Some Short)
+
+-- the same of what a call is lent that makes a monitor: 1, then 2 where the tables hold no rule
+abbrev pub ruleless : Option Mon → Opt Refusal
+ruleless none = Some Unfit
+ruleless (some m) = None
+
+unfoldable pub refusal_to_make : LentTables → List ℕ → List ℕ → Memory → Opt Refusal
+refusal_to_make t forms bounds mem = pick (lent_of t.ops t.nums t.nodes forms bounds mem) (ruleless (rule_mon t)) (Some Short)
 
 -- the same by n rows of a node table from row `nfirst` on: how the test goes
 abbrev pub rows_fit : List ℕ → ℕ → ℕ → LentMonitor → Bool

@@ -12,3 +12,11 @@ pub struct Frame<'a> {
     pub forms: &'a [u64],
     pub bounds: &'a [u64],
 }
+
+// The forms and bounds of a monitor that is to be made. Its memory stands beside it: what becomes of a list is not known where the list is lent in
+// a struct of a struct.
+#[derive(Drop)]
+pub struct Blank<'a> {
+    pub forms: &'a mut [u64],
+    pub bounds: &'a mut [u64],
+}

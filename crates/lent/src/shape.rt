@@ -6,8 +6,7 @@ ghost use Rattle.lent.specs.Lent.{Spanned, rows_fit};
 ghost use Rattle.lent.specs.Lists.{lent_monitor};
 
 use crate::Frame;
-use monitor::node::{MonNode, row_at};
-use monitor::table::Part;
+use monitor::node::{MonNode, Rows};
 use node_step::state::{Entries, MonState};
 use terms::form::{AND, DELAYED, OBLIGATION, OR, RANGE};
 
@@ -40,14 +39,13 @@ fn fits_row(row: Option<MonNode>, form: u64, bound: u64, st: MonState) -> bool
 }
 
 impl Frame<'_> {
-    // Whether the first n entries fit the nodes from row `nfirst` on.
-    fn is_shaped(&self, nodes: &[u64], nfirst: usize, entries: &Entries, n: usize) -> bool
-        requires { Spanned nodes.now nfirst self.now.forms.now self.now.bounds.now (entries_of entries.now) n }
-        ensures { result ≡ shaped_from nodes.now nfirst self.now.forms.now self.now.bounds.now (entries_of entries.now) 0 n }
+    // Whether the entries fit the nodes.
+    fn is_shaped(&self, rows: &Rows, entries: &Entries) -> bool
+        requires { Spanned rows.now.nodes.now rows.now.first self.now.forms.now self.now.bounds.now (entries_of entries.now) rows.now.count }
+        ensures { result ≡ shaped_from rows.now.nodes.now rows.now.first self.now.forms.now self.now.bounds.now (entries_of entries.now) 0 rows.now.count }
     {
-        for k in 0..n {
-            let st = entries.load(k);
-            if !fits_row(row_at(nodes, nfirst + k), self.forms[k], self.bounds[k], st) {
+        for k in 0..rows.count {
+            if !fits_row(rows.at(k), self.forms[k], self.bounds[k], entries.load(k)) {
                 return false;
             }
         }
@@ -55,10 +53,10 @@ impl Frame<'_> {
     }
 
     // Whether the monitor has as many nodes as the rule, and an entry that fits each of its rows.
-    pub(crate) fn is_fit(&self, nodes: &[u64], part: Part, entries: &Entries) -> bool
-        requires { Spanned nodes.now part.nfirst self.now.forms.now self.now.bounds.now (entries_of entries.now) part.ncount }
-        ensures { result ≡ rows_fit nodes.now part.nfirst part.ncount (lent_monitor self.now (entries_of entries.now)) }
+    pub(crate) fn is_fit(&self, rows: &Rows, entries: &Entries) -> bool
+        requires { Spanned rows.now.nodes.now rows.now.first self.now.forms.now self.now.bounds.now (entries_of entries.now) rows.now.count }
+        ensures { result ≡ rows_fit rows.now.nodes.now rows.now.first rows.now.count (lent_monitor self.now (entries_of entries.now)) }
     {
-        self.size == part.ncount && self.is_shaped(nodes, part.nfirst, entries, part.ncount)
+        self.size == rows.count && self.is_shaped(rows, entries)
     }
 }

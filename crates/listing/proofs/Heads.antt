@@ -5,7 +5,6 @@ use Prim.Native.Nat.{ℕ, ◌+◌, ◌*◌, ◌^◌, ◌≤◌, ◌<◌}
 use native.Mathlib.Omega.{arith}
 use native.Mathlib.Numerals.{add-one}
 use lib.ListN.{length, get_or, take, drop}
-use lib.ListN.{length-drop}
 use Rattle.reader.specs.BookTables.{BookTables, columns}
 use Rattle.text.specs.Tape.{Tape, Wrote}
 use Rattle.text.proofs.Tapes.{as_text, nothing, then}
@@ -14,11 +13,17 @@ use Rattle.std.specs.Prelude.{Result}
 use Rattle.listing_rules.specs.Rules.{Rule, bits_of, first_bit_of, like_of, first_below, compiling_of}
 use Rattle.listing_rules.specs.Tabled.{Tabled}
 use Rattle.listing_rules.specs.Made.{FilledRules}
-use Rattle.listing_rules.specs.Answers.{Placeable, Places, Tellable, ToldRule}
+use Rattle.listing_rules.specs.Answers.{Placeable, Places, ToldRule}
 use Rattle.listing_head.specs.Head.{upto, section_text, rule_text, rules_text}
 use Rattle.listing_section.specs.Section as section
-use Rattle.listing.specs.LentLists.{Lent, lists, Labelled, HoldsRules, BookReady, Readied, RuleReady, RuleListed, RulesListed}
+use Rattle.listing.specs.LentLists.{Lent, lists, HoldsRules, BookReady, Readied, RuleReady, RuleListed, RulesListed}
 use Rattle.listing.specs.Whole.{KnownBook, HeadListed}
+
+-- in lists that were lent one by one
+pub places_lent :
+    {kinds nodes nfirsts ncounts refusals starts bits starts' bits' : List ℕ} {n base : ℕ} → Places kinds nodes nfirsts ncounts refusals n base starts bits
+    → starts' ≡ starts → bits' ≡ bits → Places kinds nodes nfirsts ncounts refusals n base starts' bits'
+places_lent p e f = rw (e, f) p
 
 module _ (ops nums labels lens kinds firsts counts nodes nfirsts ncounts refusals starts bits : List ℕ) where
   abbrev tables : BookTables
@@ -28,11 +33,6 @@ module _ (ops nums labels lens kinds firsts counts nodes nfirsts ncounts refusal
   lent = lists tables nodes nfirsts ncounts refusals starts bits
 
   module _ (n r : ℕ) (c : Result Compiled ℕ) where
-    pub label_room : (rest : List ℕ) → RuleReady lent n r c → rest ≡ drop (32 * r) labels → get_or lens r 0 ≤ length rest
-    label_room rest h e =
-        let k : Labelled labels lens h.readied.rules n = h.readied.is.holds.labelled in
-        omega (arith, ap length e, length-drop (32 * r) labels, k.inside r h.low, k.in_labels)
-
     listable :
         (rest label : List ℕ) (base : ℕ) (R : ℕ → Rule) → BookReady base lent R n → r < n → c ≡ compiling_of base R n r → rest ≡ drop (32 * r) labels
         → label ≡ take (get_or lens r 0) rest
@@ -75,9 +75,6 @@ module _ (ops nums labels lens kinds firsts counts nodes nfirsts ncounts refusal
     pub headed_first : (a : Tape) → Headed n 0 a a
     unfolding upto
     headed_first a = record { high = omega arith; wrote = λ base R k. nothing a }
-
-    pub told_ready : (r : ℕ) → Readied lent n → r < n → Tellable ops nums firsts counts nodes nfirsts ncounts refusals starts bits r
-    told_ready r k h = record { base = k.base; rules = k.rules; many = n; tabled = k.is.tabled; placed = k.is.placed; inside = h }
 
     pub rule_asked : (r : ℕ) (c : Result Compiled ℕ) → Readied lent n → r < n → ToldRule ops nums firsts counts nodes nfirsts ncounts refusals starts bits r c → RuleReady lent n r c
     rule_asked r c k h t = record { readied = k; low = h; gave = t.is k.base k.rules n k.is.tabled k.is.placed h }

@@ -1,19 +1,20 @@
 -- A whole book: what reading it leaves is what its rules are listed from, and the listing stands in front of the output.
 use mathlib.Core.List.{List, ◌++◌}
 use mathlib.Core.Path.{◌≡◌, refl, sym, ap, ap₂, subst, ◌∙◌}
-use Prim.Native.Nat.{ℕ, ◌+◌, ◌^◌, ◌≤◌, ◌<◌}
+use Prim.Native.Nat.{ℕ, ◌+◌, ◌≤◌, ◌<◌}
 use native.Mathlib.Omega.{arith}
 use borrow.Author.Tests.{le-leb, lt-leb}
 use lib.ListN.{length, take, drop, length-append, length-drop, take-append-drop}
-use Rattle.terms.specs.Limits.{state_counts}
-use Rattle.encoding.specs.Encoding.{monitors_base, Widths, StateSum, SlotSum}
+use Rattle.encoding.specs.Encoding.{monitors_base}
 use Rattle.encoding.specs.declared.ConfigEncoding.{ConfigEncoding}
 use Rattle.book.specs.Book.{count_in}
 use Rattle.result.specs.Refusal.{number_of}
 use Rattle.book.specs.declared.check.Refused.{Refused}
-use Rattle.reader.specs.BookTables.{BookTables, SlotTables, columns, slot_columns}
-use Rattle.reader.specs.Answer.{Reads}
-use Rattle.reader.specs.declared.read.Read.{Read}
+use Rattle.reader.specs.BookTables.{BookTables, columns}
+use Rattle.reader.specs.Answer.{Roomy, RoomySlots}
+use Rattle.opened.specs.declared.Book.{Book as Memory}
+use Rattle.opened.specs.Opened.{blank, blank_slots, Opened, Opens}
+use Rattle.listing.specs.Books.{columns_in}
 use Rattle.text.specs.Tape.{Tape, tape, Wrote}
 use Rattle.text.proofs.Tapes.{as_text, then, wrote_first}
 use Rattle.listing_line.specs.Plan.{plan_line}
@@ -25,15 +26,15 @@ use Rattle.listing_reports.specs.Tail.{refused_line, end_line}
 use Rattle.listing_text.specs.Listing.{listing, rule_at, rules_listing}
 use Rattle.listing_size.proofs.ListingFits.{listing_fits}
 use Rattle.reader.proofs.Runs.{accepted_short}
-use Rattle.listing_size.specs.Handed.{Handed, HandedOpening, AnswerHands}
+use Rattle.listing_size.specs.Handed.{Handed, HandedOpening}
 use Rattle.listing_size.proofs.Handing.{answer_hands}
 use Rattle.listing_steps.specs.Holding.{Rows}
 use Rattle.listing_steps.specs.Stepped.{StepsDue, StepsReported}
 use Rattle.listing_steps.proofs.Start.{tabled_rows}
 use Rattle.result.specs.Result.{given}
-use Rattle.std.specs.Prelude.{Option, Result, Ok, Err}
+use Rattle.std.specs.Prelude.{Result, Ok, Err}
 use Rattle.result.specs.declared.Refusal.TheVariants.{Short}
-use Rattle.listing.specs.Whole.{KnownBook, HeadListed, Compiled, TailListed}
+use Rattle.listing.specs.Whole.{HeadListed, Compiled, TailListed}
 use Rattle.listing.specs.LentLists.{HoldsRules}
 use Rattle.listing.specs.Lists.{list_call, Answers}
 
@@ -60,46 +61,36 @@ module _ (text out out' : List ℕ) (n : ℕ) (w : Wrote (tape out 0) (listing t
   listed_within = omega (arith, stood.0, ap length whole ∙ length-append (listing text) (drop (length (listing text)) out), length-drop (length (listing text)) out, fits)
 
 -- ---- reading
-module _ (text labels lens kinds firsts counts ops nums names sizes widths labels' lens' kinds' firsts' counts' ops' nums' names' sizes' widths' : List ℕ) where
-  abbrev before : BookTables
-  before = columns labels lens kinds firsts counts ops nums
+blank_roomy : Roomy blank
+blank_roomy = record {
+  labels = omega arith;
+  lens = omega arith;
+  kinds = omega arith;
+  firsts = omega arith;
+  counts = omega arith;
+  ops = omega arith;
+  nums = omega arith;
+}
 
-  abbrev before_slots : SlotTables
-  before_slots = slot_columns names sizes widths
+blank_slots_roomy : RoomySlots blank_slots
+blank_slots_roomy = record { names = omega arith; lens = omega arith; widths = omega arith }
 
-  abbrev after : BookTables
-  after = columns labels' lens' kinds' firsts' counts' ops' nums'
+module _ (text : List ℕ) where
+  opened_hands : (b : Memory) → Opened text b → HandedOpening text (columns_in b) b.widths b.read.rules b.read.steps_at b.read.slots b.read.states
+  opened_hands b o = answer_hands text blank blank_slots _ _ (Ok b.read) blank_roomy blank_slots_roomy refl refl o.reads
 
-  abbrev after_slots : SlotTables
-  after_slots = slot_columns names' sizes' widths'
+  refused_is : (e : Refused) → Opens text (Err e) → listing text ≡ refused_line (number_of e.refusal) e.line
+  refused_is e p =
+      answer_hands text blank blank_slots _ _ (Err e) blank_roomy blank_slots_roomy refl refl
+      record { answer = p; tables = refl; slots = refl }
 
-  pub read_hands : 2048 ≡ length labels → 64 ≡ length lens → 64 ≡ length kinds → 64 ≡ length firsts → 64 ≡ length counts → 1024 ≡ length ops → 1024 ≡ length nums
-      → 1024 ≡ length names → 32 ≡ length sizes → 32 ≡ length widths → (r : Result Read Refused) → Reads text before before_slots r after after_slots
-      → AnswerHands text after widths' r
-  read_hands a b c d e f g i j k r u =
-      answer_hands text before before_slots after after_slots r
-      (record { labels = omega arith; lens = omega arith; kinds = omega arith; firsts = omega arith; counts = omega arith; ops = omega arith; nums = omega arith })
-      (record { names = omega arith; lens = omega arith; widths = omega arith }) (sym f) (sym g) u
+  module _ (r : Result Memory Refused) (o : Opens text r) where
+    pub hands_read : (b : Memory) → r ≡ Ok b
+        → HandedOpening text (columns_in b) b.widths b.read.rules b.read.steps_at b.read.slots b.read.states
+    hands_read b e = opened_hands b (subst (Opens text) e o)
 
-module _ (text labels lens kinds firsts counts ops nums widths : List ℕ) (r : Result Read Refused) (h : AnswerHands text (columns labels lens kinds firsts counts ops nums) widths r) where
-  pub hands_read : (a : Read) → r ≡ Ok a → HandedOpening text (columns labels lens kinds firsts counts ops nums) widths a.rules a.steps_at a.slots a.states
-  hands_read a e = subst (AnswerHands text (columns labels lens kinds firsts counts ops nums) widths) e h
-
-  pub refused_wrote : (q : Refused) (n : ℕ) (x y : Tape) → r ≡ Err q → n ≡ number_of q.refusal → Wrote x (refused_line n q.line) y → Wrote x (listing text) y
-  refused_wrote q n x y e f w = as_text x y (subst (AnswerHands text (columns labels lens kinds firsts counts ops nums) widths) e h ∙ ap (λ (k : ℕ). refused_line k q.line) (sym f)) w
-
--- ---- the bits of the states and of the slots
-module _ (text labels lens kinds firsts counts ops nums widths : List ℕ) (n from slots : ℕ) (states : Option ℕ)
-    (h : HandedOpening text (columns labels lens kinds firsts counts ops nums) widths n from slots states) where
-  pub opening_count : (count : ℕ) → count ≡ count_in states → count < state_counts
-  opening_count count e = subst (λ (k : ℕ). k < state_counts) (sym e) h.low
-
-  pub opening_widths : Widths widths slots
-  opening_widths = h.wide
-
-  pub opening_handed : (count state vars : ℕ) → count ≡ count_in states → StateSum count state → SlotSum (take slots widths) slots vars
-      → Handed text (columns labels lens kinds firsts counts ops nums) n from state vars
-  opening_handed count state vars e p q = h.hands state vars (subst (λ (k : ℕ). StateSum k state) e p) q
+    pub refused_wrote : (q : Refused) (n : ℕ) (x y : Tape) → r ≡ Err q → n ≡ number_of q.refusal → Wrote x (refused_line n q.line) y → Wrote x (listing text) y
+    refused_wrote q n x y e f w = as_text x y (refused_is q (subst (Opens text) e o) ∙ ap (λ (k : ℕ). refused_line k q.line) (sym f)) w
 
 -- ---- an accepted book
 module _ (text labels lens kinds firsts counts ops nums : List ℕ) (n from state vars : ℕ) (h : Handed text (columns labels lens kinds firsts counts ops nums) n from state vars) where
@@ -108,12 +99,6 @@ module _ (text labels lens kinds firsts counts ops nums : List ℕ) (n from stat
 
   holds : HoldsRules tables (rule_at h.book) n
   holds = record { labelled = record { in_labels = h.in_labels; in_lens = h.in_lens; inside = h.in_label; label = h.label }; held = h.held }
-
-  pub known : KnownBook tables n
-  known = record { rules = rule_at h.book; is = holds }
-
-  pub base_low : state + vars < 2 ^ 63
-  base_low = omega (arith, h.state_most, h.vars_most)
 
   module _ (nodes nfirsts ncounts refusals : List ℕ) (x y : Tape) (w : HeadListed tables n (state + vars) nodes nfirsts ncounts refusals x y) where
     tabled : Tabled ops nums firsts counts nodes nfirsts ncounts refusals (rule_at h.book) n

@@ -1,28 +1,22 @@
 // The lines of a book's steps.
-ghost use Rattle.text.specs.Tape.{tape};
+ghost use Rattle.text.specs.Lent.{tape_of, SameOut};
 ghost use Rattle.listing.specs.Whole.{Compiled, TailListed};
 
 use listing_report::put_end;
 use listing_steps::report_steps;
-use monitor::table::Tables;
 use plan::layout::RuleList;
+use text::write::Tape;
 
 // The reports of the steps from a place of the text on, each rule's monitor being fresh, and the last line.
-pub(crate) fn put_tail(
-    text: &[u8],
-    from: usize,
-    tables: &Tables,
-    rules: &RuleList,
-    n: usize,
-    out: &mut [u8],
-    at: usize,
-) -> usize
-    requires { Compiled text.now tables.now.formulas.ops.now tables.now.formulas.nums.now rules.now.firsts.now rules.now.counts.now tables.now.nodes.now
-        rules.now.nfirsts.now rules.now.ncounts.now rules.now.refusals.now n }
-    ensures { TailListed text.now from tables.now.formulas.ops.now tables.now.formulas.nums.now rules.now.firsts.now rules.now.counts.now
-        tables.now.nodes.now rules.now.nfirsts.now rules.now.ncounts.now rules.now.refusals.now n (tape out.old at)
-        (tape out.new result) }
+pub(crate) fn put_tail(text: &[u8], from: usize, rules: &RuleList, tape: &mut Tape)
+    requires { Compiled text.now rules.now.tables.formulas.ops.now rules.now.tables.formulas.nums.now rules.now.firsts.now rules.now.counts.now
+        rules.now.tables.nodes.now
+        rules.now.nfirsts.now rules.now.ncounts.now rules.now.refusals.now rules.now.len }
+    ensures listed { TailListed text.now from rules.now.tables.formulas.ops.now rules.now.tables.formulas.nums.now rules.now.firsts.now rules.now.counts.now
+        rules.now.tables.nodes.now rules.now.nfirsts.now rules.now.ncounts.now rules.now.refusals.now rules.now.len (tape_of tape.old)
+        (tape_of tape.new) }
+    ensures same { SameOut tape.old tape.new }
 {
-    let told = report_steps(text, from, tables, rules, n, out, at);
-    put_end(out, told.at, told.count)
+    let count = report_steps(text, from, rules, tape);
+    put_end(tape, count);
 }

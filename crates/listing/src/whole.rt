@@ -1,159 +1,92 @@
 // Listing a whole book: it is read, its rules are listed, its steps stepped.
-ghost use Rattle.text.specs.Tape.{tape, Wrote};
+ghost use Rattle.std.specs.Prelude.{◌≡◌};
+ghost use Rattle.text.specs.Tape.{Wrote};
+ghost use Rattle.text.specs.Lent.{tape_of, SameOut};
 ghost use Rattle.listing_text.specs.Listing.{listing};
-ghost use Rattle.listing_size.specs.Handed.{Handed, HandedOpening, AnswerHands};
-ghost use Rattle.listing.specs.Books.{columns_of};
+ghost use Rattle.listing_size.specs.Handed.{Handed, HandedOpening};
+ghost use Rattle.listing.specs.Books.{columns_of, columns_in};
 ghost use Rattle.listing.specs.Lists.{Answers, Within, list_call};
 
-use crate::BookLists;
 use crate::head::put_head;
 use crate::tail::put_tail;
-use book::check::Refused;
 use book::state::state_count;
-use encoding::{slot_bits, state_bits};
-use formula::table::FormulaTable;
+use encoding::Opening;
 use listing_line::plan_line::put_plan;
 use listing_report::put_refused;
+use listing_rules::lists::{BookLists, RuleTables};
 use listing_rules::place::encode_rules;
-use monitor::table::Tables;
-use plan::layout::RuleList;
-use reader::read::{Read, read_book};
-use reader::tables::{BookTables, SlotTables};
+use opened::{Book, open_book};
 use result::Refusal;
-use terms::limit::{
-    BOOK_CELLS, BOOK_NODES, BOOK_RULES, BOOK_SLOTS, LABELS_ROOM, LISTING_BYTES, NAMES_ROOM,
-};
+use terms::limit::{BOOK_CELLS, BOOK_RULES, LISTING_BYTES};
+use text::write::Tape;
 
-// An accepted book of n rules, whose steps begin at a place of the text, and whose states and slots take so many bits.
-fn list_accepted(
-    text: &[u8],
-    from: usize,
-    book: &BookLists,
-    n: usize,
-    state: u64,
-    vars: u64,
-    out: &mut [u8],
-) -> usize
-    requires { Handed text.now (columns_of book.now) n from state vars }
-    ensures { Wrote (tape out.old 0) (listing text.now) (tape out.new result) }
+// The lists of a book in memory.
+fn lists(book: &Book) -> BookLists
+    ensures lists { columns_of result ≡ columns_in book.now }
+    ensures len { result.len ≡ book.now.read.rules }
+{
+    BookLists {
+        labels: &book.labels,
+        lens: &book.lens,
+        kinds: &book.kinds,
+        firsts: &book.firsts,
+        counts: &book.counts,
+        formulas: book.formulas(),
+        len: book.read.rules,
+    }
+}
+
+// An accepted book, whose steps begin at a place of the text, and whose states and slots take so many bits.
+fn list_accepted(text: &[u8], from: usize, book: &BookLists, state: u64, vars: u64, tape: &mut Tape)
+    requires { Handed text.now (columns_of book.now) book.now.len from state vars }
+    ensures wrote { Wrote (tape_of tape.old) (listing text.now) (tape_of tape.new) }
+    ensures same { SameOut tape.old tape.new }
 {
     let mut nodes: [u64; BOOK_CELLS] = [0; BOOK_CELLS];
     let mut nfirsts: [usize; BOOK_RULES] = [0; BOOK_RULES];
     let mut ncounts: [usize; BOOK_RULES] = [0; BOOK_RULES];
     let mut refusals: [u64; BOOK_RULES] = [0; BOOK_RULES];
-    let place = put_head(
-        out,
-        book,
-        n,
-        state + vars,
-        &mut nodes,
-        &mut nfirsts,
-        &mut ncounts,
-        &mut refusals,
-    );
-    let tables = Tables::new(book.formulas.ops, book.formulas.nums, &nodes);
-    let rules = RuleList {
-        kinds: book.kinds,
-        refusals: &refusals,
-        firsts: book.firsts,
-        counts: book.counts,
-        nfirsts: &nfirsts,
-        ncounts: &ncounts,
+    let mut compiled = RuleTables {
+        nodes: &mut nodes,
+        nfirsts: &mut nfirsts,
+        ncounts: &mut ncounts,
+        refusals: &mut refusals,
     };
-    let encoding = encode_rules(&rules, &nodes, n, state, vars);
-    let behind = put_plan(out, place, encoding);
-    put_tail(text, from, &tables, &rules, n, out, behind)
+    put_head(tape, book, state + vars, &mut compiled);
+    let rules = compiled.rules(book);
+    let encoding = encode_rules(&rules, state, vars);
+    put_plan(tape, encoding);
+    put_tail(text, from, &rules, tape);
 }
 
-// An accepted book with its states, and with slots of the first widths.
-fn list_opened(
-    text: &[u8],
-    from: usize,
-    book: &BookLists,
-    n: usize,
-    widths: &[u64],
-    slots: usize,
-    states: Option<u64>,
-    out: &mut [u8],
-) -> usize
-    requires { HandedOpening text.now (columns_of book.now) widths.now n from
-        slots states }
-    ensures { Wrote (tape out.old 0) (listing text.now) (tape out.new result) }
+// An accepted book.
+fn list_opened(text: &[u8], book: &Book, tape: &mut Tape)
+    requires { HandedOpening text.now (columns_in book.now) book.now.widths book.now.read.rules book.now.read.steps_at
+        book.now.read.slots book.now.read.states }
+    ensures wrote { Wrote (tape_of tape.old) (listing text.now) (tape_of tape.new) }
+    ensures same { SameOut tape.old tape.new }
 {
-    let count = state_count(states);
-    let state = state_bits(count);
-    let vars = slot_bits(widths, slots);
-    list_accepted(text, from, book, n, state, vars, out)
-}
-
-// What reading answered, with the tables that it left: the listing of the book, or the line of its refusal.
-fn list_answer(
-    text: &[u8],
-    answer: Result<Read, Refused>,
-    book: &BookLists,
-    widths: &[u64],
-    out: &mut [u8],
-) -> usize
-    requires { AnswerHands text.now (columns_of book.now) widths.now answer }
-    ensures { Wrote (tape out.old 0) (listing text.now) (tape out.new result) }
-{
-    match answer {
-        Err(refused) => put_refused(out, 0, u64::from(refused.refusal), refused.line as u64),
-        Ok(read) => list_opened(
-            text,
-            read.steps_at,
-            book,
-            read.rules,
-            widths,
-            read.slots,
-            read.states,
-            out,
-        ),
-    }
+    let read = book.read;
+    let opening = Opening {
+        states: state_count(read.states),
+        widths: &book.widths,
+        slots: read.slots,
+    };
+    let state = opening.state_bits();
+    let vars = opening.slot_bits();
+    list_accepted(text, read.steps_at, &lists(book), state, vars, tape);
 }
 
 // A book's listing, or its refusal.
-fn list_text(text: &[u8], out: &mut [u8]) -> usize
-    ensures { Wrote (tape out.old 0) (listing text.now) (tape out.new result) }
+fn list_text(text: &[u8], tape: &mut Tape)
+    ensures wrote { Wrote (tape_of tape.old) (listing text.now) (tape_of tape.new) }
+    ensures same { SameOut tape.old tape.new }
 {
-    let mut labels: [u8; LABELS_ROOM] = [0; LABELS_ROOM];
-    let mut lens: [usize; BOOK_RULES] = [0; BOOK_RULES];
-    let mut kinds: [u8; BOOK_RULES] = [0; BOOK_RULES];
-    let mut firsts: [usize; BOOK_RULES] = [0; BOOK_RULES];
-    let mut counts: [usize; BOOK_RULES] = [0; BOOK_RULES];
-    let mut ops: [u8; BOOK_NODES] = [0; BOOK_NODES];
-    let mut nums: [u64; BOOK_NODES] = [0; BOOK_NODES];
-    let mut names: [u8; NAMES_ROOM] = [0; NAMES_ROOM];
-    let mut sizes: [usize; BOOK_SLOTS] = [0; BOOK_SLOTS];
-    let mut widths: [u64; BOOK_SLOTS] = [0; BOOK_SLOTS];
-    let mut tables = BookTables {
-        labels: &mut labels,
-        lens: &mut lens,
-        kinds: &mut kinds,
-        firsts: &mut firsts,
-        counts: &mut counts,
-        ops: &mut ops,
-        nums: &mut nums,
-    };
-    let mut slots = SlotTables {
-        names: &mut names,
-        lens: &mut sizes,
-        widths: &mut widths,
-    };
-    let answer = read_book(text, &mut tables, &mut slots);
-    let formulas = FormulaTable {
-        ops: &ops,
-        nums: &nums,
-    };
-    let book = BookLists {
-        labels: &labels,
-        lens: &lens,
-        kinds: &kinds,
-        firsts: &firsts,
-        counts: &counts,
-        formulas,
-    };
-    list_answer(text, answer, &book, &widths, out)
+    match open_book(text) {
+        // `as`: the number fits, and a `TryFrom` would have an error that cannot be
+        Err(refused) => put_refused(tape, u64::from(refused.refusal), refused.line as u64),
+        Ok(book) => list_opened(text, &book, tape),
+    }
 }
 
 // The entry point: the listing of a book into a lent output of at least 262,144 bytes. Answers its length.
@@ -164,5 +97,7 @@ pub fn list_book(text: &[u8], out: &mut [u8]) -> Result<usize, Refusal>
     if out.len() < LISTING_BYTES {
         return Err(Refusal::Short);
     }
-    Ok(list_text(text, out))
+    let mut tape = Tape { out, at: 0 };
+    list_text(text, &mut tape);
+    Ok(tape.at)
 }

@@ -1,37 +1,42 @@
 // One field of a line, and the mark behind it: a tab or LF.
 ghost use Rattle.number.specs.Digits.{decimal};
 ghost use Rattle.words.specs.Word.{spelling_of};
-ghost use Rattle.text.specs.Tape.{tape, Wrote};
+ghost use Rattle.text.specs.Tape.{Wrote};
+ghost use Rattle.text.specs.Lent.{tape_of, SameOut};
 ghost use Rattle.listing_line.specs.Line.{marked, absent};
 
-use text::write::{put_byte, put_bytes, put_decimal, put_word};
+use text::write::Tape;
 
-pub fn put_text(out: &mut [u8], at: usize, s: &[u8], mark: u8) -> usize
-    ensures { Wrote (tape out.old at) (marked s.now mark) (tape out.new result) }
+pub fn put_text(tape: &mut Tape, s: &[u8], mark: u8)
+    ensures wrote { Wrote (tape_of tape.old) (marked s.now mark) (tape_of tape.new) }
+    ensures same { SameOut tape.old tape.new }
 {
-    let place = put_bytes(out, at, s);
-    put_byte(out, place, mark)
+    tape.put_bytes(s);
+    tape.put_byte(mark);
 }
 
 // A line word, by its number.
-pub fn put_line_word(out: &mut [u8], at: usize, k: u8, mark: u8) -> usize
-    ensures { Wrote (tape out.old at) (marked (spelling_of k) mark) (tape out.new result) }
+pub fn put_line_word(tape: &mut Tape, k: u8, mark: u8)
+    ensures wrote { Wrote (tape_of tape.old) (marked (spelling_of k) mark) (tape_of tape.new) }
+    ensures same { SameOut tape.old tape.new }
 {
-    let place = put_word(out, at, k);
-    put_byte(out, place, mark)
+    tape.put_word(k);
+    tape.put_byte(mark);
 }
 
-pub fn put_number(out: &mut [u8], at: usize, n: u64, mark: u8) -> usize
-    ensures { Wrote (tape out.old at) (marked (decimal n) mark) (tape out.new result) }
+pub fn put_number(tape: &mut Tape, n: u64, mark: u8)
+    ensures wrote { Wrote (tape_of tape.old) (marked (decimal n) mark) (tape_of tape.new) }
+    ensures same { SameOut tape.old tape.new }
 {
-    let place = put_decimal(out, at, n);
-    put_byte(out, place, mark)
+    tape.put_decimal(n);
+    tape.put_byte(mark);
 }
 
 // `-`, for what is absent.
-pub fn put_absent(out: &mut [u8], at: usize, mark: u8) -> usize
-    ensures { Wrote (tape out.old at) (marked absent mark) (tape out.new result) }
+pub fn put_absent(tape: &mut Tape, mark: u8)
+    ensures wrote { Wrote (tape_of tape.old) (marked absent mark) (tape_of tape.new) }
+    ensures same { SameOut tape.old tape.new }
 {
-    let place = put_byte(out, at, 45);
-    put_byte(out, place, mark)
+    tape.put_byte(45);
+    tape.put_byte(mark);
 }

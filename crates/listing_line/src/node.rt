@@ -1,7 +1,8 @@
 // The `node` line of a compiled rule's node.
 ghost use Rattle.std.specs.Prelude.{[], ◌∷◌};
 ghost use Rattle.number.specs.Digits.{decimal};
-ghost use Rattle.text.specs.Tape.{tape, Wrote};
+ghost use Rattle.text.specs.Tape.{Wrote};
+ghost use Rattle.text.specs.Lent.{tape_of, SameOut};
 ghost use Rattle.listing_line.specs.Line.{tabbed, marked};
 ghost use Rattle.listing_line.specs.Node.{node_word, end_text, SignalReady, NodeReady, ExprWrote, NodeWrote};
 
@@ -10,72 +11,77 @@ use formula::table::FormulaTable;
 use monitor::node::{MonNode, SignalExpr};
 use monitor::range::{AnchorRange, End};
 use spelling::scan::put_signal;
-use text::write::put_byte;
+use text::write::Tape;
 
 // The first three fields: the word, the id and the form.
-fn put_head(out: &mut [u8], at: usize, id: u64, form: u8) -> usize
-    ensures { Wrote (tape out.old at) (tabbed (node_word ∷ decimal id ∷ (form ∷ []) ∷ [])) (tape out.new result) }
+fn put_head(tape: &mut Tape, id: u64, form: u8)
+    ensures wrote { Wrote (tape_of tape.old) (tabbed (node_word ∷ decimal id ∷ (form ∷ []) ∷ [])) (tape_of tape.new) }
+    ensures same { SameOut tape.old tape.new }
 {
-    let a = put_text(out, at, b"node", 9);
-    let b = put_number(out, a, id, 9);
-    let c = put_byte(out, b, form);
-    put_byte(out, c, 9)
+    put_text(tape, b"node", 9);
+    put_number(tape, id, 9);
+    tape.put_byte(form);
+    tape.put_byte(9);
 }
 
 // The end of a range: its last step, or `*`.
-fn put_end(out: &mut [u8], at: usize, to: End) -> usize
-    ensures { Wrote (tape out.old at) (marked (end_text to) 9) (tape out.new result) }
+fn put_end(tape: &mut Tape, to: End)
+    ensures wrote { Wrote (tape_of tape.old) (marked (end_text to) 9) (tape_of tape.new) }
+    ensures same { SameOut tape.old tape.new }
 {
     match to {
-        End::Step(t) => put_number(out, at, t, 9),
-        End::Open => put_text(out, at, b"*", 9),
+        End::Step(t) => put_number(tape, t, 9),
+        End::Open => put_text(tape, b"*", 9),
     }
 }
 
-fn put_range(out: &mut [u8], at: usize, range: AnchorRange) -> usize
-    ensures { Wrote (tape out.old at) (tabbed (decimal range.from ∷ end_text range.to ∷ [])) (tape out.new result) }
+fn put_range(tape: &mut Tape, range: AnchorRange)
+    ensures wrote { Wrote (tape_of tape.old) (tabbed (decimal range.from ∷ end_text range.to ∷ [])) (tape_of tape.new) }
+    ensures same { SameOut tape.old tape.new }
 {
-    let place = put_number(out, at, range.from, 9);
-    put_end(out, place, range.to)
+    put_number(tape, range.from, 9);
+    put_end(tape, range.to);
 }
 
 // A signal's text, and the mark behind it.
-fn put_expr(out: &mut [u8], at: usize, table: &FormulaTable, e: SignalExpr, mark: u8) -> usize
+fn put_expr(tape: &mut Tape, table: &FormulaTable, e: SignalExpr, mark: u8)
     requires { SignalReady table.now.ops.now table.now.nums.now e }
-    ensures { ExprWrote table.now.ops.now table.now.nums.now e mark (tape out.old at) (tape out.new result) }
+    ensures wrote { ExprWrote table.now.ops.now table.now.nums.now e mark (tape_of tape.old) (tape_of tape.new) }
+    ensures same { SameOut tape.old tape.new }
 {
     match e {
-        SignalExpr::True => put_text(out, at, b"T", mark),
+        SignalExpr::True => put_text(tape, b"T", mark),
         SignalExpr::At(p) => {
-            let place = put_signal(out, at, table, p);
-            put_byte(out, place, mark)
+            put_signal(tape, table, p);
+            tape.put_byte(mark);
         }
     }
 }
 
 // The line of a node with number `id`.
-pub fn put_node(out: &mut [u8], at: usize, table: &FormulaTable, id: u64, node: MonNode) -> usize
+pub fn put_node(tape: &mut Tape, table: &FormulaTable, id: u64, node: MonNode)
     requires { NodeReady table.now.ops.now table.now.nums.now node }
-    ensures { NodeWrote table.now.ops.now table.now.nums.now id node (tape out.old at) (tape out.new result) }
+    ensures wrote { NodeWrote table.now.ops.now table.now.nums.now id node (tape_of tape.old) (tape_of tape.new) }
+    ensures same { SameOut tape.old tape.new }
 {
     match node {
         MonNode::RangeCheck { expr, range } => {
-            let a = put_head(out, at, id, 67);
-            let b = put_absent(out, a, 9);
-            let c = put_range(out, b, range);
-            let d = put_expr(out, c, table, expr, 9);
-            put_absent(out, d, 10)
+            put_head(tape, id, 67);
+            put_absent(tape, 9);
+            put_range(tape, range);
+            put_expr(tape, table, expr, 9);
+            put_absent(tape, 10);
         }
         MonNode::DelayedCheck {
             antecedent,
             consequent,
             range,
         } => {
-            let a = put_head(out, at, id, 68);
-            let b = put_absent(out, a, 9);
-            let c = put_range(out, b, range);
-            let d = put_expr(out, c, table, antecedent, 9);
-            put_expr(out, d, table, consequent, 10)
+            put_head(tape, id, 68);
+            put_absent(tape, 9);
+            put_range(tape, range);
+            put_expr(tape, table, antecedent, 9);
+            put_expr(tape, table, consequent, 10);
         }
         MonNode::Obligation {
             bound,
@@ -83,19 +89,19 @@ pub fn put_node(out: &mut [u8], at: usize, table: &FormulaTable, id: u64, node: 
             body,
             range,
         } => {
-            let a = put_head(out, at, id, 66);
-            let b = put_number(out, a, bound, 9);
-            let c = put_range(out, b, range);
-            let d = put_expr(out, c, table, trigger, 9);
-            put_expr(out, d, table, body, 10)
+            put_head(tape, id, 66);
+            put_number(tape, bound, 9);
+            put_range(tape, range);
+            put_expr(tape, table, trigger, 9);
+            put_expr(tape, table, body, 10);
         }
         MonNode::And => {
-            let a = put_head(out, at, id, 65);
-            put_text(out, a, b"-\t-\t-\t-\t-", 10)
+            put_head(tape, id, 65);
+            put_text(tape, b"-\t-\t-\t-\t-", 10);
         }
         MonNode::Or => {
-            let a = put_head(out, at, id, 79);
-            put_text(out, a, b"-\t-\t-\t-\t-", 10)
+            put_head(tape, id, 79);
+            put_text(tape, b"-\t-\t-\t-\t-", 10);
         }
     }
 }

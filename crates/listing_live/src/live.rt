@@ -1,5 +1,6 @@
 // The `live` line, with the skeleton's text.
-ghost use Rattle.text.specs.Tape.{tape, Wrote};
+ghost use Rattle.text.specs.Tape.{Wrote};
+ghost use Rattle.text.specs.Lent.{tape_of, SameOut};
 ghost use Rattle.listing_live.specs.Entry.{entry_text, entries_text, EntryIn, EntriesIn, live_text, LiveReady};
 
 use formula::table::FormulaTable;
@@ -8,65 +9,60 @@ use result::Refusal;
 use spelling::scan::put_word;
 use split::parts::Parts;
 use terms::entry::{OWED, WORD};
-use text::write::{put_byte, put_decimal};
+use text::write::Tape;
 
 // One entry of a skeleton: a safety leaf with its place, an obligation with its number, or a word as operands have it.
-fn put_entry(out: &mut [u8], at: usize, table: &FormulaTable, kind: u64, n: u64) -> usize
+fn put_entry(tape: &mut Tape, table: &FormulaTable, kind: u64, n: u64)
     requires { EntryIn table.now.ops.now table.now.nums.now kind n }
-    ensures { Wrote (tape out.old at) (entry_text table.now.ops.now table.now.nums.now kind n) (tape out.new result) }
+    ensures wrote { Wrote (tape_of tape.old) (entry_text table.now.ops.now table.now.nums.now kind n) (tape_of tape.new) }
+    ensures same { SameOut tape.old tape.new }
 {
     if kind < OWED {
+        // `as`: the number fits, and a `TryFrom` would have an error that cannot be
         let p = n as usize;
-        let place = put_byte(out, at, 115);
-        return put_word(out, place, table.ops[p], table.nums[p], true);
+        tape.put_byte(115);
+        return put_word(tape, table.ops[p], table.nums[p], true);
     }
     if kind < WORD {
-        let place = put_byte(out, at, 35);
-        return put_decimal(out, place, n);
+        tape.put_byte(35);
+        return tape.put_decimal(n);
     }
-    put_word(out, at, kind as u8, 0, true)
+    put_word(tape, kind as u8, 0, true);
 }
 
-// The first n entries of a skeleton.
-pub(crate) fn put_skeleton(
-    out: &mut [u8],
-    at: usize,
-    table: &FormulaTable,
-    skeleton: &[u64],
-    n: usize,
-) -> usize
+// The first n entries of a skeleton: n is the split's own answer, beside its lent output.
+pub(crate) fn put_skeleton(tape: &mut Tape, table: &FormulaTable, skeleton: &[u64], n: usize)
     requires { EntriesIn table.now.ops.now table.now.nums.now skeleton.now n }
-    ensures { Wrote (tape out.old at) (entries_text table.now.ops.now table.now.nums.now n skeleton.now) (tape out.new result) }
+    ensures wrote { Wrote (tape_of tape.old) (entries_text table.now.ops.now table.now.nums.now n skeleton.now) (tape_of tape.new) }
+    ensures same { SameOut tape.old tape.new }
 {
-    let mut place = at;
     for k in 0..n {
-        place = put_entry(out, place, table, skeleton[2 * k], skeleton[2 * k + 1]);
+        put_entry(tape, table, skeleton[2 * k], skeleton[2 * k + 1]);
     }
-    place
 }
 
 // The line of a split's answer, with the skeleton's entries.
 pub fn put_live(
-    out: &mut [u8],
-    at: usize,
+    tape: &mut Tape,
     table: &FormulaTable,
     answer: Result<Option<Parts>, Refusal>,
     skeleton: &[u64],
-) -> usize
+)
     requires { LiveReady table.now.ops.now table.now.nums.now answer skeleton.now }
-    ensures { Wrote (tape out.old at) (live_text table.now.ops.now table.now.nums.now answer skeleton.now) (tape out.new result) }
+    ensures wrote { Wrote (tape_of tape.old) (live_text table.now.ops.now table.now.nums.now answer skeleton.now) (tape_of tape.new) }
+    ensures same { SameOut tape.old tape.new }
 {
     match answer {
-        Ok(None) => put_text(out, at, b"live\tnone\t-", 10),
+        Ok(None) => put_text(tape, b"live\tnone\t-", 10),
         Ok(Some(parts)) => {
-            let a = put_text(out, at, b"live\t0", 9);
-            let b = put_skeleton(out, a, table, skeleton, parts.skeleton);
-            put_byte(out, b, 10)
+            put_text(tape, b"live\t0", 9);
+            put_skeleton(tape, table, skeleton, parts.skeleton);
+            tape.put_byte(10);
         }
         Err(refusal) => {
-            let a = put_text(out, at, b"live", 9);
-            let b = put_number(out, a, u64::from(refusal), 9);
-            put_text(out, b, b"-", 10)
+            put_text(tape, b"live", 9);
+            put_number(tape, u64::from(refusal), 9);
+            put_text(tape, b"-", 10);
         }
     }
 }

@@ -1,7 +1,8 @@
 // The `owe` line of an obligation.
 ghost use Rattle.std.specs.Prelude.{[], ◌∷◌};
 ghost use Rattle.number.specs.Digits.{decimal};
-ghost use Rattle.text.specs.Tape.{tape, Wrote};
+ghost use Rattle.text.specs.Tape.{Wrote};
+ghost use Rattle.text.specs.Lent.{tape_of, SameOut};
 ghost use Rattle.listing_line.specs.Line.{tabbed};
 ghost use Rattle.spelling.specs.Scan.{Pure};
 ghost use Rattle.listing_live.specs.Live.{owe_word};
@@ -11,60 +12,62 @@ use formula::table::FormulaTable;
 use listing_line::field::{put_number, put_text};
 use spelling::scan::put_operand;
 use terms::entry::UNTIL;
-use text::write::put_byte;
+use text::write::Tape;
 
 // The first three fields: the word, the index and the letter.
-fn put_owe_head(out: &mut [u8], at: usize, k: u64, letter: u8) -> usize
-    ensures { Wrote (tape out.old at) (tabbed (owe_word ∷ decimal k ∷ (letter ∷ []) ∷ [])) (tape out.new result) }
+fn put_owe_head(tape: &mut Tape, k: u64, letter: u8)
+    ensures wrote { Wrote (tape_of tape.old) (tabbed (owe_word ∷ decimal k ∷ (letter ∷ []) ∷ [])) (tape_of tape.new) }
+    ensures same { SameOut tape.old tape.new }
 {
-    let a = put_text(out, at, b"owe", 9);
-    let b = put_number(out, a, k, 9);
-    let c = put_byte(out, b, letter);
-    put_byte(out, c, 9)
+    put_text(tape, b"owe", 9);
+    put_number(tape, k, 9);
+    tape.put_byte(letter);
+    tape.put_byte(9);
 }
 
 // The text of the operand at i, and the mark behind it.
-fn put_owed(out: &mut [u8], at: usize, table: &FormulaTable, i: u64, mark: u8) -> usize
+fn put_owed(tape: &mut Tape, table: &FormulaTable, i: u64, mark: u8)
     requires { Pure table.now.ops.now table.now.nums.now i }
-    ensures { OperandWrote table.now.ops.now table.now.nums.now i mark (tape out.old at) (tape out.new result) }
+    ensures wrote { OperandWrote table.now.ops.now table.now.nums.now i mark (tape_of tape.old) (tape_of tape.new) }
+    ensures same { SameOut tape.old tape.new }
 {
-    let place = put_operand(out, at, table, i as usize);
-    put_byte(out, place, mark)
+    // `as`: the number fits, and a `TryFrom` would have an error that cannot be
+    put_operand(tape, table, i as usize);
+    tape.put_byte(mark);
 }
 
 // Obligation k, from its three numbers: 0 and a place for `eventually`, 1 and two places for `until`.
 pub(crate) fn put_owe(
-    out: &mut [u8],
-    at: usize,
+    tape: &mut Tape,
     table: &FormulaTable,
     k: u64,
     kind: u64,
     first: u64,
     second: u64,
-) -> usize
+)
     requires { OweReady table.now.ops.now table.now.nums.now kind first second }
-    ensures { OweWrote table.now.ops.now table.now.nums.now k kind first second (tape out.old at) (tape out.new result) }
+    ensures wrote { OweWrote table.now.ops.now table.now.nums.now k kind first second (tape_of tape.old) (tape_of tape.new) }
+    ensures same { SameOut tape.old tape.new }
 {
     if kind < UNTIL {
-        let a = put_owe_head(out, at, k, 69);
-        return put_owed(out, a, table, first, 10);
+        put_owe_head(tape, k, 69);
+        return put_owed(tape, table, first, 10);
     }
-    let a = put_owe_head(out, at, k, 85);
-    let b = put_owed(out, a, table, first, 9);
-    put_owed(out, b, table, second, 10)
+    put_owe_head(tape, k, 85);
+    put_owed(tape, table, first, 9);
+    put_owed(tape, table, second, 10);
 }
 
-// The lines of the first n obligations, numbered from 0.
-pub fn put_owes(out: &mut [u8], at: usize, table: &FormulaTable, owed: &[u64], n: usize) -> usize
+// The lines of the first n obligations, numbered from 0: n is the split's own answer, beside its lent output.
+pub fn put_owes(tape: &mut Tape, table: &FormulaTable, owed: &[u64], n: usize)
     requires { OwesReady table.now.ops.now table.now.nums.now owed.now n }
-    ensures { OwesWrote table.now.ops.now table.now.nums.now owed.now n (tape out.old at) (tape out.new result) }
+    ensures wrote { OwesWrote table.now.ops.now table.now.nums.now owed.now n (tape_of tape.old) (tape_of tape.new) }
+    ensures same { SameOut tape.old tape.new }
 {
-    let mut place = at;
     for k in 0..n {
         let kind = owed[3 * k];
         let first = owed[3 * k + 1];
         let second = owed[3 * k + 2];
-        place = put_owe(out, place, table, k as u64, kind, first, second);
+        put_owe(tape, table, k as u64, kind, first, second);
     }
-    place
 }

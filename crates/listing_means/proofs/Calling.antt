@@ -84,7 +84,7 @@ module _ (R : ℕ → Rule) (n : ℕ) where
       → Called (R p.rule) (st p.rule) (x ∷ xs) 0 p.at p.culprit → p ∈ reports_at R st i x n
   unfolding state_at breaks report_of
   here i st x xs p h o k =
-      let e : breaks R st x p.rule ≡ true = broken_is (compiles (R p.rule)) (failed (mon (R p.rule)) (next_states R st x p.rule)) (failed (mon (R p.rule)) (st p.rule)) k.rule_compiles k.failed_after k.unfailed_before in
+      let e : breaks R st x p.rule ≡ true = broken_is _ _ _ k.rule_compiles k.failed_after k.unfailed_before in
       let q : report_of R st i x p.rule ≡ p = λ t. record { place = sym o t; at = sym k.line_is t; rule = p.rule; culprit = sym k.culprit_after t } in
       subst (λ (z : Report). z ∈ reports_at R st i x n) q (at_out R st i x p.rule n h e)
 

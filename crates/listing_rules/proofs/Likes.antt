@@ -12,6 +12,7 @@ use Rattle.formula.proofs.Cases.{below_or}
 use Rattle.alike.specs.Alike.{alike_mon, part_of, alike_some}
 use Rattle.alike.specs.Rows.{IsCompiled}
 use Rattle.monitor.specs.declared.table.Part.{Part}
+use Rattle.plan.specs.Book.{part_at}
 use Rattle.std.specs.Prelude.{None, Option, Some}
 use Rattle.listing_rules.specs.Rules.{Rule, compiles, mon, like_of, or_at, first_below}
 use Rattle.listing_rules.specs.Tabled.{Tabled}
@@ -42,18 +43,18 @@ module _ (like : ℕ → Bool) (q : ℕ) (e : first_below like q ≡ None) where
 
 -- ---- two rules of the tables
 module _ (ops nums firsts counts nodes nfirsts ncounts refusals : List ℕ) where
-  abbrev part_at : ℕ → Part
-  part_at r = record { first = get_or firsts r 0; count = get_or counts r 0; nfirst = get_or nfirsts r 0; ncount = get_or ncounts r 0 }
+  abbrev part : ℕ → Part
+  part r = part_at firsts counts nfirsts ncounts r
 
   module _ (r : ℕ) (k : KnownRule ops nums firsts counts nodes nfirsts ncounts refusals r) where
-    pub second_compiled : IsCompiled ops nums nodes (part_at r)
-    second_compiled = record { mon = mon (k.rules r); is = k.tabled.compiled r k.inside k.compiled }
+    pub second_compiled : (p : Part) → p ≡ part r → IsCompiled ops nums nodes p
+    second_compiled p d = subst (IsCompiled ops nums nodes) (sym d) record { mon = mon (k.rules r); is = k.tabled.compiled r k.inside k.compiled }
 
     module _ (q : ℕ) (h : q < r) where
-      pub first_compiled : get_or refusals q 0 ≡ 0 → IsCompiled ops nums nodes (part_at q)
-      first_compiled e =
+      pub first_compiled : get_or refusals q 0 ≡ 0 → (p : Part) → p ≡ part q → IsCompiled ops nums nodes p
+      first_compiled e p d =
           let l : q < k.many = omega (arith, k.inside) in
-          record { mon = mon (k.rules q); is = k.tabled.compiled q l (zero_compiles k.tabled q l e) }
+          subst (IsCompiled ops nums nodes) (sym d) record { mon = mon (k.rules q); is = k.tabled.compiled q l (zero_compiles k.tabled q l e) }
 
       pub like_refused : (get_or refusals q 0 ≡ 0 → ⊥) → Like ops nums firsts counts nodes nfirsts ncounts refusals q r false
       unfolding like_of
@@ -62,7 +63,7 @@ module _ (ops nums firsts counts nodes nfirsts ncounts refusals : List ℕ) wher
       }
 
       pub like_same :
-          (b : Bool) → get_or refusals q 0 ≡ 0 → b ≡ alike_some (part_of ops nums nodes (part_at q)) (part_of ops nums nodes (part_at r))
+          (b : Bool) → get_or refusals q 0 ≡ 0 → b ≡ alike_some (part_of ops nums nodes (part q)) (part_of ops nums nodes (part r))
           → Like ops nums firsts counts nodes nfirsts ncounts refusals q r b
       unfolding like_of
       like_same b e p = record {

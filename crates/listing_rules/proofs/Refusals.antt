@@ -9,7 +9,8 @@ use lib.Dec.{eqb}
 use lib.ListN.{get_or}
 use Rattle.result.specs.Refusal.{number_of}
 use Rattle.result.specs.declared.Refusal.{Refusal}
-use Rattle.result.specs.declared.Refusal.TheVariants.{Short, Unfit, Long, Unended, Word, Place, Label, Number, Limit, Unfinished, Unopened, NestedFor, ZeroFor, Antecedent, WithinOperand, NextConsequent, Consequent, NextOperand, NotOperand, Liveness, EventuallyOperand, UntilOperand, LivenessBelow, NoLivenessBelow, Late, Failed, Unsaved}
+use Rattle.result.specs.declared.Refusal.TheVariants.{Short, Unfit, Long, Unended, Word, Place, Label, Number, Limit, Unfinished, Unopened, NestedFor, ZeroFor, Antecedent, WithinOperand, NextConsequent}
+use Rattle.result.specs.declared.Refusal.TheVariants.{Consequent, NextOperand, NotOperand, Liveness, EventuallyOperand, UntilOperand, LivenessBelow, NoLivenessBelow, Late, Failed, Unsaved}
 use Rattle.monitor.specs.Compile.{rule_faults}
 use Rattle.plan.specs.Book.{is_zero}
 use Rattle.listing_rules.specs.Rules.{Rule, is_none, first_of, compiles, refusal}

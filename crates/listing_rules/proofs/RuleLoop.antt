@@ -1,7 +1,7 @@
 -- The loop over the rules: what the tables hold after the first r of them.
 --     SoFar      for rules R: the rows of each stand in the node table, one behind the other, at most one for each place of its formula
 --     Filling    the loop's invariant: so for whatever rules the formula table holds
-use mathlib.Core.Path.{◌≡◌, refl, sym, ap, ap₂, subst, ◌∙◌}
+use mathlib.Core.Path.{◌≡◌, sym, ap, ap₂, subst, ◌∙◌}
 use mathlib.Core.Bool.{true}
 use mathlib.Core.Logic.{⊎_elim}
 use mathlib.Core.List.{List}
@@ -164,16 +164,6 @@ pub record Filling (ops nums kinds firsts counts : List ℕ) (n : ℕ) (nodes₀
   pub so_far : (R : ℕ → Rule) → Held ops nums kinds firsts counts R n → SoFar R n r i firsts nodes nfirsts ncounts refusals
 
 module _ (ops nums kinds firsts counts : List ℕ) (n : ℕ) (nodes₀ nfirsts₀ ncounts₀ refusals₀ : List ℕ) where
-  pub filling_none : Filling ops nums kinds firsts counts n nodes₀ nodes₀ nfirsts₀ nfirsts₀ ncounts₀ ncounts₀ refusals₀ refusals₀ 0 0
-  filling_none = record {
-    below = omega arith;
-    nodes_same = refl;
-    nfirsts_same = refl;
-    ncounts_same = refl;
-    refusals_same = refl;
-    so_far = λ R w. none_yet R n firsts nodes₀ nfirsts₀ ncounts₀ refusals₀;
-  }
-
   module _ (nodes nfirsts ncounts refusals : List ℕ) (i r : ℕ)
       (u : Filling ops nums kinds firsts counts n nodes₀ nodes nfirsts₀ nfirsts ncounts₀ ncounts refusals₀ refusals i r)
       (p : Fillable ops nums kinds firsts counts nodes₀ nfirsts₀ ncounts₀ refusals₀ n) where

@@ -3,3 +3,4 @@ pub mod Rules
 pub mod Tabled
 pub mod Made
 pub mod Answers
+pub mod Lists

@@ -2,31 +2,28 @@
 ghost use Rattle.listing_rules.specs.Answers.{Tellable, ToldRule};
 
 use crate::likeness::first_alike;
+use crate::lists::PlacedRules;
 use listing_line::rule::Compiled;
-use monitor::table::Tables;
-use plan::layout::RuleList;
 
-// The refusal of rule r, or its first bit, its bits and its likeness.
-pub fn compiling_at(
-    tables: &Tables,
-    rules: &RuleList,
-    starts: &[u64],
-    bits: &[u64],
-    r: usize,
-) -> Result<Compiled, u64>
-    requires { Tellable tables.now.formulas.ops.now tables.now.formulas.nums.now rules.now.firsts.now rules.now.counts.now tables.now.nodes.now
-        rules.now.nfirsts.now rules.now.ncounts.now rules.now.refusals.now starts.now bits.now r }
-    ensures { ToldRule tables.now.formulas.ops.now tables.now.formulas.nums.now rules.now.firsts.now rules.now.counts.now tables.now.nodes.now
-        rules.now.nfirsts.now rules.now.ncounts.now rules.now.refusals.now starts.now bits.now r result }
-{
-    let m = rules.refusals[r];
-    if m != 0 {
-        return Err(m);
+impl PlacedRules<'_> {
+    // The refusal of rule r, or its first bit, its bits and its likeness.
+    pub fn compiling_at(&self, r: usize) -> Result<Compiled, u64>
+        requires { Tellable self.now.rules.tables.formulas.ops.now self.now.rules.tables.formulas.nums.now self.now.rules.firsts.now self.now.rules.counts.now
+            self.now.rules.tables.nodes.now self.now.rules.nfirsts.now self.now.rules.ncounts.now self.now.rules.refusals.now self.now.starts.now
+            self.now.bits.now r }
+        ensures { ToldRule self.now.rules.tables.formulas.ops.now self.now.rules.tables.formulas.nums.now self.now.rules.firsts.now self.now.rules.counts.now
+            self.now.rules.tables.nodes.now self.now.rules.nfirsts.now self.now.rules.ncounts.now self.now.rules.refusals.now self.now.starts.now
+            self.now.bits.now r result }
+    {
+        let m = self.rules.refusals[r];
+        if m != 0 {
+            return Err(m);
+        }
+        let alike = first_alike(&self.rules, r);
+        Ok(Compiled {
+            first: self.starts[r],
+            bits: self.bits[r],
+            alike,
+        })
     }
-    let alike = first_alike(tables, rules, r);
-    Ok(Compiled {
-        first: starts[r],
-        bits: bits[r],
-        alike,
-    })
 }

@@ -4,4 +4,5 @@
 pub mod compile;
 pub mod fields;
 pub mod likeness;
+pub mod lists;
 pub mod place;

@@ -3,42 +3,32 @@ ghost use Rattle.std.specs.Prelude.{◌<◌};
 ghost use Rattle.listing_rules.specs.Answers.{KnownRule, Like, Earlier};
 
 use alike::node::same_nodes;
-use monitor::table::{Part, Tables};
 use plan::layout::RuleList;
 
 // Whether rule q compiles and is like rule r.
-fn is_like(tables: &Tables, rules: &RuleList, q: usize, r: usize) -> bool
-    requires { KnownRule tables.now.formulas.ops.now tables.now.formulas.nums.now rules.now.firsts.now rules.now.counts.now tables.now.nodes.now
+fn is_like(rules: &RuleList, q: usize, r: usize) -> bool
+    requires { KnownRule rules.now.tables.formulas.ops.now rules.now.tables.formulas.nums.now rules.now.firsts.now rules.now.counts.now
+        rules.now.tables.nodes.now
         rules.now.nfirsts.now rules.now.ncounts.now rules.now.refusals.now r × (q < r) }
-    ensures { Like tables.now.formulas.ops.now tables.now.formulas.nums.now rules.now.firsts.now rules.now.counts.now tables.now.nodes.now
+    ensures { Like rules.now.tables.formulas.ops.now rules.now.tables.formulas.nums.now rules.now.firsts.now rules.now.counts.now rules.now.tables.nodes.now
         rules.now.nfirsts.now rules.now.ncounts.now rules.now.refusals.now q r result }
 {
     if rules.refusals[q] != 0 {
         return false;
     }
-    let a = Part {
-        first: rules.firsts[q],
-        count: rules.counts[q],
-        nfirst: rules.nfirsts[q],
-        ncount: rules.ncounts[q],
-    };
-    let b = Part {
-        first: rules.firsts[r],
-        count: rules.counts[r],
-        nfirst: rules.nfirsts[r],
-        ncount: rules.ncounts[r],
-    };
-    same_nodes(tables, a, b)
+    same_nodes(&rules.tables, rules.part(q), rules.part(r))
 }
 
 // The first rule before rule r that compiles and is like it.
-pub(crate) fn first_alike(tables: &Tables, rules: &RuleList, r: usize) -> Option<u64>
-    requires { KnownRule tables.now.formulas.ops.now tables.now.formulas.nums.now rules.now.firsts.now rules.now.counts.now tables.now.nodes.now rules.now.nfirsts.now rules.now.ncounts.now rules.now.refusals.now r }
-    ensures { Earlier tables.now.formulas.ops.now tables.now.formulas.nums.now rules.now.firsts.now rules.now.counts.now tables.now.nodes.now
+pub(crate) fn first_alike(rules: &RuleList, r: usize) -> Option<u64>
+    requires { KnownRule rules.now.tables.formulas.ops.now rules.now.tables.formulas.nums.now rules.now.firsts.now rules.now.counts.now
+        rules.now.tables.nodes.now rules.now.nfirsts.now rules.now.ncounts.now rules.now.refusals.now r }
+    ensures { Earlier rules.now.tables.formulas.ops.now rules.now.tables.formulas.nums.now rules.now.firsts.now rules.now.counts.now rules.now.tables.nodes.now
         rules.now.nfirsts.now rules.now.ncounts.now rules.now.refusals.now r result }
 {
     for q in 0..r {
-        if is_like(tables, rules, q, r) {
+        if is_like(rules, q, r) {
+            // `as`: the number fits, and a `TryFrom` would have an error that cannot be
             return Some(q as u64);
         }
     }

@@ -14,7 +14,7 @@ use Rattle.result.specs.Refusal.{number_of}
 use Rattle.book.specs.declared.check.Refused.{Refused}
 use Rattle.reader.specs.BookTables.{BookTables, SlotTables, over, written, slots_written, read_into}
 use Rattle.reader.specs.Answer.{Roomy, RoomySlots, Reads}
-use Rattle.reader.specs.declared.read.Read.{Read}
+use Rattle.book.specs.declared.check.Read.{Read}
 use Rattle.reader.proofs.Answers.{ReadBack, into_roomy, read_inv, refused_inv}
 use Rattle.reader.proofs.Columns.{over_long}
 use Rattle.reader.proofs.Runs.{roomy_is, roomy_slots_is}

@@ -130,8 +130,8 @@ nodes_short (one always f) i r t k = omega (arith, nodes_short f (i + 1) r true 
 nodes_short (one eventually f) i r t k = check_short (range_check (at i (one eventually f)) r) k _ (range_short k i r (one eventually f))
 nodes_short (one (always_for b) f) i r t k = omega (arith, nodes_short f (i + 1) (upto_of (b - 1)) true k)
 nodes_short (one (within b) f) i r t k = check_short (obligation b always_true (at (i + 1) f) (anchor t r)) k _ (omega (arith, obligation_line k (anchor t r) b always_true (at (i + 1) f), signs_short f, size_pos f))
-nodes_short (two and l c) i r t k = pair_short 65 k (node_lines (node l (i + 1) r t) (k + 1)) (node_lines (node c (i + 1 + size l) r t) (k + 1 + count (node l (i + 1) r t))) (size l) (size c) (nodes_short l (i + 1) r t (k + 1)) (nodes_short c (i + 1 + size l) r t (k + 1 + count (node l (i + 1) r t)))
-nodes_short (two or l c) i r t k = pair_short 79 k (node_lines (node l (i + 1) r t) (k + 1)) (node_lines (node c (i + 1 + size l) r t) (k + 1 + count (node l (i + 1) r t))) (size l) (size c) (nodes_short l (i + 1) r t (k + 1)) (nodes_short c (i + 1 + size l) r t (k + 1 + count (node l (i + 1) r t)))
+nodes_short (two and l c) i r t k = pair_short 65 k _ _ (size l) (size c) (nodes_short l (i + 1) r t (k + 1)) (nodes_short c (i + 1 + size l) r t (k + 1 + count (node l (i + 1) r t)))
+nodes_short (two or l c) i r t k = pair_short 79 k _ _ (size l) (size c) (nodes_short l (i + 1) r t (k + 1)) (nodes_short c (i + 1 + size l) r t (k + 1 + count (node l (i + 1) r t)))
 nodes_short (two implies l c) i r t k = check_short (implication l c i (i + 1 + size l) r t) k _ (implication_short l c i (i + 1 + size l) r t k)
 nodes_short (two until l c) i r t k = check_short (range_check (at i (two until l c)) r) k _ (range_short k i r (two until l c))
 
@@ -161,9 +161,9 @@ skeleton_short (one always f) i k = owed_short k (1 + size f) (omega (arith, siz
 skeleton_short (one eventually f) i k = owed_short k (1 + size f) (omega (arith, size_pos f))
 skeleton_short (one (always_for b) f) i k = owed_short k (1 + size f) (omega (arith, size_pos f))
 skeleton_short (one (within b) f) i k = owed_short k (1 + size f) (omega (arith, size_pos f))
-skeleton_short (two and l r) i k = word_short 38 (skeleton_text (skeleton_of l (i + 1) k)) (skeleton_text (skeleton_of r (i + 1 + size l) (k + owes l (i + 1)))) (size l) (size r) (skeleton_short l (i + 1) k) (skeleton_short r (i + 1 + size l) (k + owes l (i + 1)))
-skeleton_short (two or l r) i k = word_short 124 (skeleton_text (skeleton_of l (i + 1) k)) (skeleton_text (skeleton_of r (i + 1 + size l) (k + owes l (i + 1)))) (size l) (size r) (skeleton_short l (i + 1) k) (skeleton_short r (i + 1 + size l) (k + owes l (i + 1)))
-skeleton_short (two implies l r) i k = word_short 62 (skeleton_text (skeleton_of l (i + 1) k)) (skeleton_text (skeleton_of r (i + 1 + size l) (k + owes l (i + 1)))) (size l) (size r) (skeleton_short l (i + 1) k) (skeleton_short r (i + 1 + size l) (k + owes l (i + 1)))
+skeleton_short (two and l r) i k = word_short 38 _ _ (size l) (size r) (skeleton_short l (i + 1) k) (skeleton_short r (i + 1 + size l) (k + owes l (i + 1)))
+skeleton_short (two or l r) i k = word_short 124 _ _ (size l) (size r) (skeleton_short l (i + 1) k) (skeleton_short r (i + 1 + size l) (k + owes l (i + 1)))
+skeleton_short (two implies l r) i k = word_short 62 _ _ (size l) (size r) (skeleton_short l (i + 1) k) (skeleton_short r (i + 1 + size l) (k + owes l (i + 1)))
 skeleton_short (two until l r) i k = owed_short k (1 + size l + size r) (omega (arith, size_pos l))
 
 -- ---- the `owe` lines: an obligation's operands are parts of the formula that no other obligation has
@@ -201,9 +201,9 @@ owes_most_lem (one always f) i = omega arith
 owes_most_lem (one eventually f) i = omega (arith, size_pos f)
 owes_most_lem (one (always_for b) f) i = omega arith
 owes_most_lem (one (within b) f) i = omega arith
-owes_most_lem (two and l r) i = both_most (obligations_of l (i + 1)) (obligations_of r (i + 1 + size l)) (size l) (size r) (owes_most_lem l (i + 1)) (owes_most_lem r (i + 1 + size l))
-owes_most_lem (two or l r) i = both_most (obligations_of l (i + 1)) (obligations_of r (i + 1 + size l)) (size l) (size r) (owes_most_lem l (i + 1)) (owes_most_lem r (i + 1 + size l))
-owes_most_lem (two implies l r) i = both_most (obligations_of l (i + 1)) (obligations_of r (i + 1 + size l)) (size l) (size r) (owes_most_lem l (i + 1)) (owes_most_lem r (i + 1 + size l))
+owes_most_lem (two and l r) i = both_most _ _ (size l) (size r) (owes_most_lem l (i + 1)) (owes_most_lem r (i + 1 + size l))
+owes_most_lem (two or l r) i = both_most _ _ (size l) (size r) (owes_most_lem l (i + 1)) (owes_most_lem r (i + 1 + size l))
+owes_most_lem (two implies l r) i = both_most _ _ (size l) (size r) (owes_most_lem l (i + 1)) (owes_most_lem r (i + 1 + size l))
 owes_most_lem (two until l r) i = omega (arith, size_pos l, size_pos r)
 
 -- ---- both of a split

@@ -9,7 +9,7 @@ use Rattle.book.specs.declared.check.Refused.{Refused}
 use Rattle.reader.specs.BookTables.{BookTables}
 use Rattle.reader.specs.Steps.{steps_from}
 use Rattle.result.specs.Refusal.{number_of}
-use Rattle.reader.specs.declared.read.Read.{Read}
+use Rattle.book.specs.declared.check.Read.{Read}
 use Rattle.listing_rules.specs.Tabled.{Held}
 use Rattle.listing_reports.specs.Tail.{refused_line}
 use Rattle.listing_text.specs.Listing.{rule_at, rules_listing, listing}

@@ -161,11 +161,11 @@ module _ (ops nums : List ℕ) (i : ℕ) where
     unfolding node_at
     both_faults f o l r t e = ap faults e ∙ faults_two o l r (subst (λ (n : ℕ). n < 12) (binary_number _ _ o t) k)
 
-    pub judged_left : (n : Refusal) → left ≡ Err n → Judged ops nums i left
+    pub judged_left : (n : Refusal) → left ≡ Err n → Judged ops nums i (Err n)
     judged_left n q = record {
       is = λ f s.
           let (o, l, r, t, e, u, w) = two_there ops nums i f s h in
-          q ∙ top_fault (faults l) (faults r) (i + 1 + size l) (i + size f) n (sym q ∙ p.is l u) ∙ ap (λ (x : List Refusal). top_of x (i + size f)) (sym (both_faults f o l r t e));
+          top_fault (faults l) (faults r) (i + 1 + size l) (i + size f) n (sym q ∙ p.is l u) ∙ ap (λ (x : List Refusal). top_of x (i + size f)) (sym (both_faults f o l r t e));
     }
 
     pub judged_end : (e : ℕ) → left ≡ Ok e → (f : Formula) → Spells (node_at ops nums) (i + 1) f → e ≡ i + 1 + size f

@@ -67,11 +67,8 @@ pub fn judge_top(table: &FormulaTable, i: usize) -> Result<usize, Refusal>
         return Err(Refusal::NoLivenessBelow);
     }
     if op < UNTIL {
-        let left = judge_top(table, i + 1);
-        let Ok(e) = left else {
-            return left;
-        };
-        return judge_top(table, e);
+        let right = judge_top(table, i + 1)?;
+        return judge_top(table, right);
     }
     let m = operand_at(table, i + 1, Refusal::UntilOperand)?;
     operand_at(table, m, Refusal::UntilOperand)

@@ -1,4 +1,4 @@
--- Document 01, "Nodes and alarms" up to the alarms, and refusals NestedFor to 19: what a formula compiles to (`compile_formula` of
+-- Document 01, "Nodes and alarms" up to the alarms, and refusals 11 to 19: what a formula compiles to (`compile_formula` of
 -- src/codegen/monitor.rs).
 --     faults    the refusals that apply, in the order of the walk: parents first, left before right. The first is the answer
 --     node      the node that a formula gives where no refusal applies

@@ -4,3 +4,4 @@ pub mod Mon
 pub mod Compile
 pub mod Table
 pub mod Tables
+pub mod Tape

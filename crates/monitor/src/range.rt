@@ -2,7 +2,7 @@
 ghost use Rattle.std.specs.Prelude.{◌≡◌};
 ghost use Rattle.monitor.specs.Range.{contains_of, shifted_of, Shiftable, all_of, upto_of};
 
-// The end of a range: the last step in it, or none.
+// The end of a range: the last step in it, or open, which document 01 has as a case of its own and no missing value.
 #[derive(Clone, Copy, Debug, PartialEq, Eq)]
 pub enum End {
     Step(u64),

@@ -4,11 +4,11 @@ ghost use Rattle.terms.specs.Limits.{row_cells};
 ghost use Rattle.formula.specs.Table.{is_some};
 ghost use Rattle.formula.specs.Walk.{Walked};
 ghost use Rattle.monitor.specs.Table.{signal_by, cell_by, kind_of, any_check};
-ghost use Rattle.monitor.specs.Tables.{RuleIn, rule_in, cells_in, compiled_in};
+ghost use Rattle.monitor.specs.Tables.{RuleIn, roomy_in, span_of, rule_in, rows_in, cells_in, compiled_in};
 
-use crate::node::{MonNode, SignalExpr, row_at};
-use formula::table::FormulaTable;
-use terms::limit::{DEEPEST, ROW_CELLS, RULE_NODES};
+use crate::node::{MonNode, Rows, SignalExpr, row_at};
+use formula::table::{FormulaTable, Span};
+use terms::limit::{DEEPEST, NODE_CELLS, ROW_CELLS, RULE_NODES};
 
 // The lent tables: formulas, and the nodes that they compile to.
 #[derive(Clone, Copy)]
@@ -17,7 +17,8 @@ pub struct Tables<'a> {
     pub nodes: &'a [u64],
 }
 
-// A compiled rule's part of the tables: its formula's first place and count, its nodes' first row and count.
+// A compiled rule's part of the tables: its formula's first place and count, its nodes' first row and count. It goes beside the tables and not with
+// them: they hold many rules, and likeness looks at two parts of them.
 #[derive(Clone, Copy, Debug, PartialEq, Eq)]
 pub struct Part {
     pub first: usize,
@@ -33,6 +34,18 @@ pub enum Kind {
     Joined,
 }
 
+impl Part {
+    // Where the rule's formula stands.
+    pub fn formula(self) -> Span
+        ensures { result ≡ span_of self }
+    {
+        Span {
+            first: self.first,
+            count: self.count,
+        }
+    }
+}
+
 impl<'a> Tables<'a> {
     // The tables that three lists are.
     pub fn new(ops: &'a [u8], nums: &'a [u64], nodes: &'a [u64]) -> Self
@@ -42,6 +55,17 @@ impl<'a> Tables<'a> {
     {
         let formulas = FormulaTable { ops, nums };
         Tables { formulas, nodes }
+    }
+
+    // The rows of a rule's nodes.
+    pub fn rows(&self, part: Part) -> Rows<'a>
+        ensures { result ≡ rows_in self.now part }
+    {
+        Rows {
+            nodes: self.nodes,
+            first: part.nfirst,
+            count: part.ncount,
+        }
     }
 }
 
@@ -144,11 +168,18 @@ impl Tables<'_> {
         }
     }
 
+    // Whether there is room for 1,024 formula nodes and 256 monitor nodes.
+    pub fn is_roomy(&self) -> bool
+        ensures { result ≡ roomy_in self.now }
+    {
+        NODE_CELLS <= self.nodes.len() && self.formulas.is_roomy()
+    }
+
     // Whether the tables hold a rule and its compiled nodes, within the limits.
     pub fn is_compiled(&self, part: Part) -> bool
         ensures { result ≡ is_some (compiled_in self.now part) }
     {
-        if self.formulas.is_rule(part.first, part.count) {
+        if self.formulas.is_rule(part.formula()) {
             return self.has_nodes(part);
         }
         false

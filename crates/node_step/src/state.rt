@@ -21,7 +21,7 @@ pub struct Memory<'a> {
     pub culprits: &'a mut [i64],
 }
 
-// The same lists, to be looked at.
+// The same lists, to be looked at: shared, so that the caller keeps them.
 #[derive(Clone, Copy)]
 pub struct Entries<'a> {
     pub held: &'a [bool],

@@ -15,7 +15,7 @@ use Rattle.formula.proofs.Walks.{both_true}
 use Rattle.node_table.specs.Node.{ops_of, nums_of}
 use Rattle.terms.specs.Choice.{pick}
 use Rattle.node_table.specs.Columns.{capped, Unpacked}
-use Rattle.node_table.specs.declared.Columns.{Columns}
+use Rattle.node_table.specs.declared.columns.Columns.{Columns}
 use Rattle.node_table.specs.declared.FormulaNode.{FormulaNode}
 use Rattle.node_table.proofs.Filling.{end_fits}
 
@@ -35,10 +35,10 @@ module _ (table : List FormulaNode) (first count : ℕ) (c : Columns) (u : Unpac
   ns = take c.count c.nums
 
   os_length : length os ≡ capped (length table)
-  os_length = length-take-le c.count c.ops u.inside.ops ∙ u.lent
+  os_length = length-take-le c.count c.ops c.ops_room ∙ u.lent
 
   ns_length : length ns ≡ capped (length table)
-  ns_length = length-take-le c.count c.nums u.inside.nums ∙ u.lent
+  ns_length = length-take-le c.count c.nums c.nums_room ∙ u.lent
 
   ops_length : length (ops_of table) ≡ length table
   ops_length = length-map table (λ x. x.op)

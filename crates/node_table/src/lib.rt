@@ -3,15 +3,18 @@
 // `table_read`, `table_step`) hand plain columns on to the core.
 #![tactic(auto)]
 
-ghost use Rattle.std.specs.Prelude.{◌≡◌, ◌+◌, ◌≤◌, ◌<◌, length, set, take};
+ghost use Rattle.std.specs.Prelude.{◌≡◌, ◌≤◌, ◌<◌, length, set};
 ghost use Rattle.node_table.specs.Node.{struct_at};
-ghost use Rattle.node_table.specs.Columns.{capped, end_of, Unpacked, Inside, Packed};
+ghost use Rattle.node_table.specs.Columns.{capped, end_of, Unpacked, Packed};
 
-use formula::table::FormulaTable;
+mod columns;
+
+pub use crate::columns::Columns;
+use formula::table::Span;
 use terms::limit::BOOK_NODES;
 
 // A node of a formula table: its operation and its number.
-#[derive(Clone, Copy)]
+#[derive(Clone, Copy, Debug, PartialEq, Eq)]
 pub struct FormulaNode {
     pub op: u8,
     pub num: u64,
@@ -25,80 +28,36 @@ pub(crate) fn node_at(table: &[FormulaNode], i: usize) -> FormulaNode
     table[i]
 }
 
-// A table in two columns: how many nodes there are, and the operations and numbers of those that were read or are to be stored. Memory is fixed, so the
-// count stands beside arrays of the largest size.
-#[derive(Clone, Copy)]
-pub struct Columns {
-    pub count: usize,
-    pub ops: [u8; BOOK_NODES],
-    pub nums: [u64; BOOK_NODES],
-}
-
-impl Columns {
-    // The operations that count.
-    pub fn ops(&self) -> &[u8]
-        requires { Inside self.now }
-        ensures { result.now ≡ take self.now.count self.now.ops }
-    {
-        &self.ops[..self.count]
-    }
-
-    // The numbers that count.
-    pub fn nums(&self) -> &[u64]
-        requires { Inside self.now }
-        ensures { result.now ≡ take self.now.count self.now.nums }
-    {
-        &self.nums[..self.count]
-    }
-
-    // The table that they are.
-    pub fn table(&self) -> FormulaTable
-        requires { Inside self.now }
-        ensures ops { result.ops.now ≡ take self.now.count self.now.ops }
-        ensures nums { result.nums.now ≡ take self.now.count self.now.nums }
-    {
-        FormulaTable {
-            ops: self.ops(),
-            nums: self.nums(),
-        }
-    }
-}
-
-// Columns for the first 1,024 of `len` nodes.
-fn columns_for(len: usize) -> Columns
-    ensures { result.count ≡ capped len }
+// Where a rule's places end, if so many of the `lent` nodes hold them; else its first place, so that there are none.
+fn end_of(lent: usize, span: Span) -> usize
+    ensures { result ≡ end_of lent span.first span.count }
 {
-    Columns {
-        count: len.min(BOOK_NODES),
-        ops: [0; BOOK_NODES],
-        nums: [0; BOOK_NODES],
+    if lent < span.first {
+        return span.first;
     }
+    if lent - span.first < span.count {
+        return span.first;
+    }
+    span.first + span.count
 }
 
-// Where the places of a rule of `count` nodes at `first` end, if so many of the `lent` nodes hold them; else `first`, so that there are none.
-fn end_of(lent: usize, first: usize, count: usize) -> usize
-    ensures { result ≡ end_of lent first count }
+// A rule's places, in columns.
+pub fn unpack(table: &[FormulaNode], span: Span) -> Columns
+    ensures { Unpacked table.now span.first span.count result }
 {
-    if lent < first {
-        return first;
-    }
-    if lent - first < count {
-        return first;
-    }
-    first + count
-}
-
-// The places of the rule of `count` nodes at `first`, in columns.
-pub fn unpack(table: &[FormulaNode], first: usize, count: usize) -> Columns
-    ensures { Unpacked table.now first count result }
-{
-    let mut c = columns_for(table.len());
-    for i in first..end_of(c.count, first, count) {
+    let lent = table.len().min(BOOK_NODES);
+    let mut ops = [0; BOOK_NODES];
+    let mut nums = [0; BOOK_NODES];
+    for i in span.first..end_of(lent, span) {
         let x = node_at(table, i);
-        c.ops[i] = x.op;
-        c.nums[i] = x.num;
+        ops[i] = x.op;
+        nums[i] = x.num;
     }
-    c
+    Columns {
+        count: lent,
+        ops,
+        nums,
+    }
 }
 
 // Stores a node at i.
@@ -111,7 +70,7 @@ pub(crate) fn put_node(table: &mut [FormulaNode], i: usize, node: FormulaNode)
 
 // Stores the nodes of two columns at the table's front.
 pub fn pack(table: &mut [FormulaNode], c: Columns)
-    requires { Inside c × (c.count ≤ length table.old) }
+    requires { c.count ≤ length table.old }
     ensures { Packed c table.old table.new }
 {
     for i in 0..c.count {

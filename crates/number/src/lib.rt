@@ -4,7 +4,7 @@
 ghost use Rattle.std.specs.Prelude.{◌≡◌, ◌≤◌, ◌<◌};
 ghost use Rattle.number.specs.Number.{Digit, plain, value_in, decimal_of, hex_of};
 
-// What a byte is worth as a digit: 0 to 15, or 16 where it is none.
+// What a byte is worth as a digit: 0 to 15, or 16 where it is none, which no base has: one comparison tests both.
 pub fn digit(b: u8) -> u64
     ensures { Digit b result }
 {

@@ -8,7 +8,7 @@ use Rattle.terms.specs.Limits.{book_rules}
 use Rattle.book.specs.declared.check.Refused.{Refused}
 use Rattle.reader.specs.BookTables.{BookTables, SlotTables, columns, slot_columns}
 use Rattle.reader.specs.Answer.{Reads}
-use Rattle.reader.specs.declared.read.Read.{Read}
+use Rattle.book.specs.declared.check.Read.{Read}
 use Rattle.opened.specs.declared.Book.{Book as Memory}
 use Rattle.opened.specs.Opened.{blank, blank_slots, Opened}
 use Rattle.reader.proofs.Answers.{read_inv}

@@ -9,7 +9,8 @@ use Rattle.compiler.specs.Compiled.{Answers, compile_call}
 use Rattle.book.specs.Book.{book_result}
 use Rattle.book.specs.declared.check.Refused.{Refused}
 use Rattle.reader.specs.BookTables.{BookTables, SlotTables, columns, slot_columns, read_into}
-use Rattle.reader.specs.Answer.{Reads, result_of}
+use Rattle.book.specs.Checked.{result_of}
+use Rattle.reader.specs.Answer.{Reads}
 use Rattle.opened.specs.declared.Book.{Book}
 
 abbrev pub blank : BookTables

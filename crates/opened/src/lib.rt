@@ -5,17 +5,17 @@ ghost use Rattle.std.specs.Prelude.{◌≡◌, ◌<◌, get_or};
 ghost use Rattle.terms.specs.Limits.{book_rules};
 ghost use Rattle.opened.specs.Opened.{CompilesAt, Opens};
 
-use book::check::Refused;
+use book::check::{Read, Refused};
 use compiler::compile_formula;
-use formula::table::FormulaTable;
-use reader::read::{Read, read_book};
+use formula::table::{FormulaTable, Span};
+use reader::read::read_book;
 use reader::tables::{BookTables, SlotTables};
 use result::Refusal;
 use terms::limit::{
     BOOK_CELLS, BOOK_NODES, BOOK_RULES, BOOK_SLOTS, LABELS_ROOM, NAMES_ROOM, ROW_CELLS,
 };
 
-// The tables that `read_book` fills, and how much was read into them.
+// The tables that `read_book` fills, document 01's lists of plain numbers, and how much was read into them.
 #[derive(Clone, Copy)]
 pub struct Book {
     pub read: Read,
@@ -43,21 +43,28 @@ impl Book {
         }
     }
 
+    // Where rule r's formula stands.
+    pub fn formula(&self, r: usize) -> Span
+        requires { r < book_rules }
+        ensures first { result.first ≡ get_or self.now.firsts r 0 }
+        ensures count { result.count ≡ get_or self.now.counts r 0 }
+    {
+        Span {
+            first: self.firsts[r],
+            count: self.counts[r],
+        }
+    }
+
     // Compiles rule r into the rows from its formula's own place on: it has no more nodes than its formula.
     pub fn compile(&self, r: usize, nodes: &mut [u64; BOOK_CELLS]) -> Result<usize, Refusal>
         requires { r < book_rules }
         ensures { CompilesAt self.now.ops self.now.nums (get_or self.now.firsts r 0) (get_or self.now.counts r 0) nodes.old result nodes.new }
     {
-        let first = self.firsts[r];
-        if BOOK_NODES < first {
+        let span = self.formula(r);
+        if BOOK_NODES < span.first {
             return Err(Refusal::Unfit);
         }
-        compile_formula(
-            &self.formulas(),
-            first,
-            self.counts[r],
-            &mut nodes[ROW_CELLS * first..],
-        )
+        compile_formula(&self.formulas(), span, &mut nodes[ROW_CELLS * span.first..])
     }
 }
 

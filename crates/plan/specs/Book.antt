@@ -5,6 +5,7 @@ use Rattle.std.specs.Prelude.{Bool, true, false, ◌&&◌, not, List, [], ◌∷
 use Rattle.std.proofs.lemmas.List.Edits.{sets}
 use Rattle.terms.specs.Limits.{book_rules}
 use Rattle.terms.specs.Choice.{pick}
+use Rattle.monitor.specs.declared.table.Part.{Part}
 use Rattle.plan.specs.Rows.{row_bits, RowsPart}
 
 -- the bits of the rules below r that are chosen
@@ -49,6 +50,11 @@ filled_in compiled f old n = sets old 0 (listed (kept compiled f old) n)
 -- ---- a book in lent slices, with the bits of its rules by the rows of a node table
 abbrev pub is_zero : List ℕ → ℕ → Bool
 is_zero l r = eqb (get_or l r 0) 0
+
+-- rule r's part of the tables
+abbrev pub part_at : List ℕ → List ℕ → List ℕ → List ℕ → ℕ → Part
+part_at firsts counts nfirsts ncounts r =
+    record { first = get_or firsts r 0; count = get_or counts r 0; nfirst = get_or nfirsts r 0; ncount = get_or ncounts r 0 }
 
 abbrev pub part_bits : List ℕ → List ℕ → List ℕ → ℕ → ℕ
 part_bits nodes nfirsts ncounts r = row_bits nodes (get_or nfirsts r 0) (get_or ncounts r 0)

@@ -3,3 +3,4 @@ pub mod Width
 pub mod Layout
 pub mod Rows
 pub mod Book
+pub mod Lists

@@ -4,22 +4,33 @@ ghost use Rattle.terms.specs.Kinds.{property_kind};
 ghost use Rattle.plan.specs.Width.{ceil_log2, width};
 ghost use Rattle.plan.specs.Layout.{slot_in};
 ghost use Rattle.plan.specs.Rows.{piece_of, row_pieces, Breadth, Summed, RowsPart};
-ghost use Rattle.plan.specs.Book.{asked, of_kind, is_zero, part_bits, Rowed, Chosen, Counted, Stored, Arranged};
+ghost use Rattle.plan.specs.Book.{asked, of_kind, part_at, Chosen, Counted, Stored, Arranged};
+ghost use Rattle.plan.specs.Lists.{is_property, compiles, own_bits, RulesRowed, SameBits};
 
+use monitor::node::Rows;
+use monitor::table::{Part, Tables};
 use terms::form::{DELAYED, OBLIGATION};
 use terms::kind::PROPERTY;
-use terms::limit::ROW_CELLS;
 
-// What is lent of a book's rules, a place for each: its kind (0 a property), its refusal (0: it compiles), the first place and the count of its
-// formula, and the first row and the count of its nodes.
+// What is lent of a book's rules: the tables that hold them, and a place for each: its kind (0 a property), its refusal (0: it compiles), the first
+// place and the count of its formula, and the first row and the count of its nodes. The first `len` places are those of the book's rules.
 #[derive(Clone, Copy)]
 pub struct RuleList<'a> {
+    pub tables: Tables<'a>,
     pub kinds: &'a [u8],
     pub refusals: &'a [u64],
     pub firsts: &'a [usize],
     pub counts: &'a [usize],
     pub nfirsts: &'a [usize],
     pub ncounts: &'a [usize],
+    pub len: usize,
+}
+
+// The lent lists of the rules' first bits and bits.
+#[derive(Drop)]
+pub struct RuleBits<'a> {
+    pub starts: &'a mut [u64],
+    pub bits: &'a mut [u64],
 }
 
 // The bits of one node: of the pending flag, of the remaining count, of the remembered antecedent.
@@ -88,31 +99,29 @@ fn breadth_of(form: u64, bound: u64) -> u64
     p.pending + p.remaining + p.antecedent
 }
 
-// The bits of the n rows from nfirst on.
-pub fn rule_bits(nodes: &[u64], nfirst: usize, n: usize) -> u64
-    requires { RowsPart nodes.now nfirst n }
-    ensures { Summed nodes.now nfirst n result }
+// The bits of all rows.
+pub fn rule_bits(rows: &Rows) -> u64
+    requires { RowsPart rows.now.nodes.now rows.now.first rows.now.count }
+    ensures { Summed rows.now.nodes.now rows.now.first rows.now.count result }
 {
     let mut sum = 0;
-    for j in 0..n {
-        let i = ROW_CELLS * (nfirst + j);
-        sum += breadth_of(nodes[i], nodes[i + 1]);
+    for j in 0..rows.count {
+        sum += breadth_of(rows.cell(j, 0), rows.cell(j, 1));
     }
     sum
 }
 
-// The slot of node j among the n rows from nfirst on.
-pub fn slot_of(nodes: &[u64], nfirst: usize, n: usize, j: usize) -> Slot
-    requires { (RowsPart nodes.now nfirst n) × (j < n) }
-    ensures { result ≡ slot_in (row_pieces nodes.now nfirst n) j }
+// The slot of the node in row j.
+pub fn slot_of(rows: &Rows, j: usize) -> Slot
+    requires { (RowsPart rows.now.nodes.now rows.now.first rows.now.count) × (j < rows.now.count) }
+    ensures { result ≡ slot_in (row_pieces rows.now.nodes.now rows.now.first rows.now.count) j }
 {
-    let offset = rule_bits(nodes, nfirst, j);
-    let i = ROW_CELLS * (nfirst + j);
-    let piece = piece_of(nodes[i], nodes[i + 1]);
+    let offset = rule_bits(&Rows { count: j, ..*rows });
+    let piece = piece_of(rows.cell(j, 0), rows.cell(j, 1));
     Slot { offset, piece }
 }
 
-// Whether a rule of a kind is what is asked: a property, or else an assumption.
+// Whether a rule of a kind is what is asked: a property, or else an assumption. A `bool`, as document 01 asks it: is the rule a property.
 fn is_asked(kind: u8, property: bool) -> bool
     ensures { result ≡ asked property (eqb kind property_kind) }
 {
@@ -120,66 +129,78 @@ fn is_asked(kind: u8, property: bool) -> bool
 }
 
 // Kinds and refusals are numbers, as the lent lists of a book hold them: a refusal of 0 is none.
-// The bits of rule r, if it compiles and is a property, or an assumption, as is asked; else 0.
-fn chosen_bits(rules: &RuleList, nodes: &[u64], n: usize, r: usize, property: bool) -> u64
-    requires { (Rowed rules.now.kinds.now rules.now.refusals.now nodes.now rules.now.nfirsts.now rules.now.ncounts.now n) × (r < n) }
-    ensures { Chosen (of_kind property (is_zero rules.now.kinds.now) (is_zero rules.now.refusals.now))
-        (part_bits nodes.now rules.now.nfirsts.now rules.now.ncounts.now) r result }
-{
-    if rules.refusals[r] == 0 && is_asked(rules.kinds[r], property) {
-        return rule_bits(nodes, rules.nfirsts[r], rules.ncounts[r]);
+impl RuleList<'_> {
+    // Rule r's part of the tables.
+    pub fn part(&self, r: usize) -> Part
+        requires { (r < length self.now.firsts.now) × ((r < length self.now.counts.now) × ((r < length self.now.nfirsts.now) × (r < length self.now.ncounts.now))) }
+        ensures { result ≡ part_at self.now.firsts.now self.now.counts.now self.now.nfirsts.now self.now.ncounts.now r }
+    {
+        Part {
+            first: self.firsts[r],
+            count: self.counts[r],
+            nfirst: self.nfirsts[r],
+            ncount: self.ncounts[r],
+        }
     }
-    0
-}
 
-// The bits of all properties that compile, or else of all assumptions that do.
-pub fn kind_bits(rules: &RuleList, nodes: &[u64], n: usize, property: bool) -> u64
-    requires { Rowed rules.now.kinds.now rules.now.refusals.now nodes.now rules.now.nfirsts.now rules.now.ncounts.now n }
-    ensures { Counted (of_kind property (is_zero rules.now.kinds.now) (is_zero rules.now.refusals.now))
-        (part_bits nodes.now rules.now.nfirsts.now rules.now.ncounts.now) n result }
-{
-    let mut sum = 0;
-    for r in 0..n {
-        sum += chosen_bits(rules, nodes, n, r, property);
+    // The bits of rule r, if it compiles and is a property, or an assumption, as is asked; else 0.
+    fn chosen_bits(&self, r: usize, property: bool) -> u64
+        requires { (RulesRowed self.now) × (r < self.now.len) }
+        ensures { Chosen (of_kind property (is_property self.now) (compiles self.now)) (own_bits self.now) r result }
+    {
+        if self.refusals[r] == 0 && is_asked(self.kinds[r], property) {
+            let rows = Rows {
+                nodes: self.tables.nodes,
+                first: self.nfirsts[r],
+                count: self.ncounts[r],
+            };
+            return rule_bits(&rows);
+        }
+        0
     }
-    sum
-}
 
-// The values of rule r: its first bit, x for a property and y for an assumption, and its bits. A rule that does not compile has none.
-fn store(rules: &RuleList, r: usize, x: u64, y: u64, b: u64, starts: &mut [u64], bits: &mut [u64])
-    requires { (r < length rules.now.kinds.now) × ((r < length rules.now.refusals.now) × ((r < length starts.old) × (r < length bits.old))) }
-    ensures { Stored (is_zero rules.now.refusals.now r) (is_zero rules.now.kinds.now r) r x y b starts.old starts.new
-        bits.old bits.new }
-{
-    if rules.refusals[r] != 0 {
-        return;
+    // The bits of all properties that compile, or else of all assumptions that do.
+    pub fn kind_bits(&self, property: bool) -> u64
+        requires { RulesRowed self.now }
+        ensures { Counted (of_kind property (is_property self.now) (compiles self.now)) (own_bits self.now) self.now.len result }
+    {
+        let mut sum = 0;
+        for r in 0..self.len {
+            sum += self.chosen_bits(r, property);
+        }
+        sum
     }
-    bits[r] = b;
-    starts[r] = if rules.kinds[r] == PROPERTY { x } else { y };
-}
 
-// The first bits and the bits of n rules, by the rows of the node table. The first rule's begin at bit `base`.
-pub fn arrange(
-    rules: &RuleList,
-    nodes: &[u64],
-    n: usize,
-    base: u64,
-    starts: &mut [u64],
-    bits: &mut [u64],
-)
-    requires { (Rowed rules.now.kinds.now rules.now.refusals.now nodes.now rules.now.nfirsts.now rules.now.ncounts.now n)
-        × ((n ≤ length starts.old) × ((n ≤ length bits.old) × (base < 2 ^ 63))) }
-    ensures { Arranged base n (is_zero rules.now.kinds.now) (is_zero rules.now.refusals.now)
-        (part_bits nodes.now rules.now.nfirsts.now rules.now.ncounts.now) starts.old starts.new bits.old
-        bits.new }
-{
-    let mut x = 0;
-    let mut y = kind_bits(rules, nodes, n, true);
-    for r in 0..n {
-        let p = chosen_bits(rules, nodes, n, r, true);
-        let a = chosen_bits(rules, nodes, n, r, false);
-        store(rules, r, base + x, base + y, p + a, starts, bits);
-        x += p;
-        y += a;
+    // The values of rule r: its first bit, x for a property and y for an assumption, and its bits. A rule that does not compile has none.
+    fn store(&self, r: usize, x: u64, y: u64, b: u64, out: &mut RuleBits)
+        requires { (r < length self.now.kinds.now) × ((r < length self.now.refusals.now) × ((r < length out.old.starts.now) × (r < length out.old.bits.now))) }
+        ensures stored { Stored (compiles self.now r) (is_property self.now r) r x y b
+            out.old.starts.now out.new.starts.now out.old.bits.now out.new.bits.now }
+        ensures same { SameBits out.old out.new }
+    {
+        if self.refusals[r] != 0 {
+            return;
+        }
+        out.bits[r] = b;
+        out.starts[r] = if self.kinds[r] == PROPERTY { x } else { y };
+    }
+
+    // The first bits and the bits of the rules, by the rows of the node table. The first rule's begin at bit `base`.
+    pub fn arrange(&self, base: u64, out: &mut RuleBits)
+        requires { (RulesRowed self.now)
+            × ((self.now.len ≤ length out.old.starts.now) × ((self.now.len ≤ length out.old.bits.now) × (base < 2 ^ 63))) }
+        ensures arranged { Arranged base self.now.len (is_property self.now) (compiles self.now) (own_bits self.now)
+            out.old.starts.now out.new.starts.now out.old.bits.now out.new.bits.now }
+        ensures same { SameBits out.old out.new }
+    {
+        let mut x = 0;
+        let mut y = self.kind_bits(true);
+        for r in 0..self.len {
+            let p = self.chosen_bits(r, true);
+            let a = self.chosen_bits(r, false);
+            self.store(r, base + x, base + y, p + a, out);
+            x += p;
+            y += a;
+        }
     }
 }

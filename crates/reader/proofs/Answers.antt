@@ -22,12 +22,11 @@ use Rattle.line.specs.declared.line.Flaw.{Flaw}
 use Rattle.line.specs.declared.line.Flaw.TheVariants as flaw
 use Rattle.book.specs.Book.{Book, empty, whole, or_else, order, fault, first_fault, stands, opens, within, add_line, unless, read_on, ended, Outcome, accepted, refused, contents, refusal, book_result, read}
 use Rattle.book.specs.Checked as Checking
-use Rattle.book.specs.declared.check.Held.{Held}
+use Rattle.book.specs.declared.check.Read.{Read}
 use Rattle.book.specs.declared.check.Refused.{Refused}
 use Rattle.reader.specs.BookTables.{BookTables, SlotTables, written, slots_written, roomy, roomy_slots, read_into, after, slots_after}
 use Rattle.reader.specs.FillingPass.{Fillable, FilledTables, SlotsFillable, FilledSlots}
 use Rattle.reader.specs.Answer.{Roomy, RoomySlots, Reads}
-use Rattle.reader.specs.declared.read.Read.{Read}
 use Rattle.reader.proofs.Sounds.{both}
 use Rattle.reader.proofs.Runs.{roomy_is, roomy_slots_is}
 
@@ -88,18 +87,18 @@ result_contents (accepted b) r n h m c e = (b, refl, go e)
     go e = record { rules = cc; nodes = cc; head = cc; slots = cc; states = cc }
 result_contents (refused k j) r n h m c e = let z : ◌≡◌ {A = ℕ} 0 1 = cc in absurd (omega arith)
 
-module _ (text : List ℕ) (c : Result Held Refused) (is : Checking.result_of c ≡ book_result (read text)) (d : Held) (e : c ≡ Ok d) where
-  pub read_fillable : (t : BookTables) → Roomy t → Fillable text d.head t
+module _ (text : List ℕ) (c : Result Read Refused) (is : Checking.result_of c ≡ book_result (read text)) (d : Read) (e : c ≡ Ok d) where
+  pub read_fillable : (t : BookTables) → Roomy t → Fillable text d.steps_at t
   read_fillable t room =
-      let (b, o, a) = result_contents (read text) d.rules d.nodes d.head d.slots d.states (sym (ap Checking.result_of e) ∙ is) in
+      let (b, o, a) = result_contents (read text) d.rules d.nodes d.steps_at d.slots d.states (sym (ap Checking.result_of e) ∙ is) in
       record { book = b; is = o; begin = a.head; room = has_room_lem t room }
 
   pub read_slots_fillable : (u : SlotTables) → RoomySlots u → SlotsFillable text d.slots u
   read_slots_fillable u room =
-      let (b, o, a) = result_contents (read text) d.rules d.nodes d.head d.slots d.states (sym (ap Checking.result_of e) ∙ is) in
+      let (b, o, a) = result_contents (read text) d.rules d.nodes d.steps_at d.slots d.states (sym (ap Checking.result_of e) ∙ is) in
       record { book = b; is = o; many = a.slots; room = has_slot_room u room }
 
-module _ (text : List ℕ) (t : BookTables) (u : SlotTables) (room : Roomy t × RoomySlots u) (c : Result Held Refused) (is : Checking.result_of c ≡ book_result (read text)) where
+module _ (text : List ℕ) (t : BookTables) (u : SlotTables) (room : Roomy t × RoomySlots u) (c : Result Read Refused) (is : Checking.result_of c ≡ book_result (read text)) where
   into : read_into text t u ≡ read text
   into = into_roomy text t u room.0 room.1
 
@@ -110,14 +109,11 @@ module _ (text : List ℕ) (t : BookTables) (u : SlotTables) (room : Roomy t × 
       into ∙ result_refused (read text) (number_of x.refusal) x.line (sym (ap Checking.result_of e) ∙ is) in
       record { answer = rw o refl; tables = rw o refl; slots = rw o refl }
 
-  module _ (d : Held) (e : c ≡ Ok d) where
-    abbrev all_read : Read
-    all_read = record { rules = d.rules; nodes = d.nodes; steps_at = d.head; slots = d.slots; states = d.states }
-
-    pub read_good : (t' : BookTables) (u' : SlotTables) → FilledTables text t t' → FilledSlots text u u' → Reads text t u (Ok all_read) t' u'
+  module _ (d : Read) (e : c ≡ Ok d) where
+    pub read_good : (t' : BookTables) (u' : SlotTables) → FilledTables text t t' → FilledSlots text u u' → Reads text t u (Ok d) t' u'
     unfolding after slots_after
     read_good t' u' f g =
-        let (b, o, a) = result_contents (read text) d.rules d.nodes d.head d.slots d.states (sym (ap Checking.result_of e) ∙ is) in
+        let (b, o, a) = result_contents (read text) d.rules d.nodes d.steps_at d.slots d.states (sym (ap Checking.result_of e) ∙ is) in
         record {
           answer = sym (ap Checking.result_of e) ∙ is ∙ ap book_result (sym into);
           tables = f.is b o ∙ ap (λ (x : Outcome). after x t) (sym (into ∙ o));

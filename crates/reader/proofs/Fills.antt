@@ -1,20 +1,20 @@
 -- Stores into the lent tables: the laws of the functions that fill them.
 use mathlib.Core.Path.{◌≡◌, refl, sym, ap, ap₂, subst, ◌∙◌}
 use mathlib.Core.List.{List}
-use Prim.Native.Nat.{ℕ, ◌+◌, ◌≤◌}
+use Prim.Native.Nat.{ℕ}
 use native.Mathlib.Omega.{arith}
-use lib.ListN.{length, get_or, take, drop, set, length-set}
+use lib.ListN.{take, drop}
 use Rattle.terms.specs.Kinds.{kind_number}
 use Rattle.terms.specs.declared.kind.Kind.{Kind}
 use Rattle.line.specs.Line.{Content, rule, node, right, parse}
-use Rattle.line.specs.Means.{Answer, held, means, label_in, in_line, LineIs}
+use Rattle.line.specs.Means.{Answer, held, means, LineIs}
 use Rattle.line.specs.declared.line.Content as held-type
 use Rattle.line.specs.declared.line.Content.TheVariants as contents
 use Rattle.std.specs.Prelude.{Ok, Err}
 use Rattle.line.specs.declared.line.Fault.{Fault}
 use Rattle.line.specs.declared.line.Fault.TheVariants as fault_of
-use Rattle.reader.specs.BookTables.{BookTables, columns}
-use Rattle.reader.specs.FillingPass.{RuleRoom, RulePut, NodeRoom, NodePut, LineRoom, LinePut, LeftBy}
+use Rattle.reader.specs.BookTables.{BookTables}
+use Rattle.reader.specs.FillingPass.{RuleRoom, RuleDone, NodeRoom, NodeDone, LineRoom, LinePut, LeftBy}
 use Rattle.reader.specs.declared.fill.Tally.{Tally}
 
 -- ---- a line
@@ -53,38 +53,19 @@ module _ (line : List ℕ) (l : Answer) (is : LineIs line l) where
     line_slot t f start len w q = only t f t f (subst (λ (y : held-type.Content). LeftBy (held line y) t f t f) (sym q) (record { tables = refl; fill = refl }))
 
     module _ (start len : ℕ) (kind : Kind) (k : x ≡ contents.Rule start len kind) where
-      rule_in : start + len ≤ length line
-      rule_in = subst (label_in (length line)) k (subst (in_line (length line)) e is.inside)
-
-      pub rule_start : start ≤ length line
-      rule_start = omega (arith, rule_in)
-
-      pub rule_len : (rest : List ℕ) → rest ≡ drop start line → len ≤ length rest
-      rule_len rest p = omega (arith, ap length p, lib.ListN.length-drop start line, rule_in)
-
-      module _ (labels lens kinds firsts counts ops nums : List ℕ) (f : Tally) (rest label : List ℕ) (p : rest ≡ drop start line) (q : label ≡ take len rest) (v : ℕ) (n : v ≡ kind_number kind) where
+      module _ (t : BookTables) (f : Tally) (rest label : List ℕ) (p : rest ≡ drop start line) (q : label ≡ take len rest) (v : ℕ) (n : v ≡ kind_number kind) where
         rule_held : held line x ≡ rule label v
         rule_held = ap (held line) k ∙ ap₂ rule (ap (take len) (sym p) ∙ sym q) (sym n)
 
-        pub line_rule_room : LineRoom line (columns labels lens kinds firsts counts ops nums) f → RuleRoom labels lens kinds firsts counts label f
+        pub line_rule_room : LineRoom line t f → RuleRoom label t f
         line_rule_room m = m.room (rule label v) (line_held ∙ ap right rule_held)
 
-        pub line_rule_put : (labels' lens' kinds' firsts' counts' ops' nums' : List ℕ) (r : Tally)
-            → RulePut labels lens kinds firsts counts label v f labels' lens' kinds' firsts' counts' r → (ops' ≡ ops) × (nums' ≡ nums)
-            → LinePut line (columns labels lens kinds firsts counts ops nums) f (columns labels' lens' kinds' firsts' counts' ops' nums') r
-        line_rule_put labels' lens' kinds' firsts' counts' ops' nums' r u q =
-            only (columns labels lens kinds firsts counts ops nums) f (columns labels' lens' kinds' firsts' counts' ops' nums') r
-            (subst (λ (y : Content). LeftBy y (columns labels lens kinds firsts counts ops nums) f (columns labels' lens' kinds' firsts' counts' ops' nums') r) (sym rule_held)
-            (record { put = u; ops_kept = q.0; nums_kept = q.1 }))
+        pub line_rule_put : (t' : BookTables) (f' : Tally) → RuleDone label v t f t' f' → LinePut line t f t' f'
+        line_rule_put t' f' u = only t f t' f' (subst (λ (y : Content). LeftBy y t f t' f') (sym rule_held) u)
 
-    module _ (op num : ℕ) (k : x ≡ contents.Node op num) (labels lens kinds firsts counts ops nums : List ℕ) (f : Tally) where
-      pub line_node_room : LineRoom line (columns labels lens kinds firsts counts ops nums) f → NodeRoom counts ops nums f
+    module _ (op num : ℕ) (k : x ≡ contents.Node op num) (t : BookTables) (f : Tally) where
+      pub line_node_room : LineRoom line t f → NodeRoom t f
       line_node_room m = m.room (node op num) (line_held ∙ ap (λ (y : held-type.Content). right (held line y)) k)
 
-      pub line_node_put : (labels' lens' kinds' firsts' counts' ops' nums' : List ℕ) (r : Tally)
-          → NodePut counts ops nums op num f counts' ops' nums' r → (labels' ≡ labels) × (lens' ≡ lens) × (kinds' ≡ kinds) × (firsts' ≡ firsts)
-          → LinePut line (columns labels lens kinds firsts counts ops nums) f (columns labels' lens' kinds' firsts' counts' ops' nums') r
-      line_node_put labels' lens' kinds' firsts' counts' ops' nums' r u q =
-          only (columns labels lens kinds firsts counts ops nums) f (columns labels' lens' kinds' firsts' counts' ops' nums') r
-          (subst (λ (y : held-type.Content). LeftBy (held line y) (columns labels lens kinds firsts counts ops nums) f (columns labels' lens' kinds' firsts' counts' ops' nums') r) (sym k)
-          (record { put = u; labels_kept = q.0; lens_kept = q.1; kinds_kept = q.2; firsts_kept = q.3 }))
+      pub line_node_put : (t' : BookTables) (f' : Tally) → NodeDone op num t f t' f' → LinePut line t f t' f'
+      line_node_put t' f' u = only t f t' f' (subst (λ (y : held-type.Content). LeftBy (held line y) t f t' f') (sym k) u)

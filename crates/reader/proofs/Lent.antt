@@ -6,8 +6,13 @@ use Rattle.std.specs.Prelude.{Result}
 use Rattle.book.specs.declared.check.Refused.{Refused}
 use Rattle.reader.specs.BookTables.{BookTables, SlotTables, columns, slot_columns}
 use Rattle.reader.specs.Answer.{Reads}
-use Rattle.reader.specs.declared.read.Read.{Read}
+use Rattle.book.specs.declared.check.Read.{Read}
 
+pub reads_as : (text : List ℕ) (t : BookTables) (u : SlotTables) (r : Result Read Refused) (t' l : BookTables) (u' m : SlotTables)
+    → Reads text t u r t' u' → l ≡ t' → m ≡ u' → Reads text t u r l m
+reads_as text t u r t' l u' m p e f = rw (e, f) p
+
+-- .. list by list
 pub reads_lent : (text : List ℕ) (t : BookTables) (u : SlotTables) (r : Result Read Refused) (t' : BookTables) (u' : SlotTables)
     → Reads text t u r t' u'
     → (labels lens kinds firsts counts ops nums names sizes widths : List ℕ)

@@ -4,8 +4,6 @@ use mathlib.Core.List.{List, [], ◌∷◌, map}
 use mathlib.Core.Logic.{◌⊎◌, inl, inr}
 use Prim.Native.Nat.{ℕ, ◌+◌, ◌≤◌, ◌<◌}
 use native.Mathlib.Omega.{arith}
-use mir.Syntax.{w64}
-use mir.Val.{Fits}
 use lib.ListN.{length, take, drop}
 use Rattle.number.proofs.Numbers.{below_or}
 use Rattle.line.specs.Text.{lines, Found}
@@ -18,7 +16,7 @@ use Rattle.reader.specs.declared.fill.Tally.{Tally}
 use Rattle.reader.proofs.Sounds.{Passed, PassedLine, passed, sane}
 use Rattle.reader.proofs.Runs.{roomy_is, Tallied, tables_eq, Long, written_long, room_by, line_after, accepted_inj, unless_none}
 use Rattle.reader.proofs.BookSteps.{begun, later, ends}
-use Rattle.reader.proofs.Reaching.{Reach, reach_first, reach_on, reach_end, next_fits, line_passed, passed_as, next_lines, next_on, next_reach}
+use Rattle.reader.proofs.Reaching.{Reach, reach_first, reach_on, reach_end, line_passed, passed_as, next_lines, next_on, next_reach}
 
 -- ---- the bytes before the step lines
 head_grows : (n : ℕ) (b : Book) (l : Line) → b.head ≤ (add_line n b l).head
@@ -134,9 +132,6 @@ module _ (text : List ℕ) (head : ℕ) (t₀ t : BookTables) (f : Tally) (at : 
   fill_past h = omega (arith, fill_inside h)
 
   module _ (rest : List ℕ) (n : ℕ) (h : at < head) (e : rest ≡ drop at text) (g : Found 10 rest n) where
-    pub fill_at : Fits w64 (at + (n + 1))
-    fill_at = next_fits text final at v.reach rest n (fill_inside h) e g
-
     module _ (first : List ℕ) (e' : first ≡ take n rest) where
       abbrev passed_line : PassedLine b (parse first)
       passed_line = line_passed text final at v.reach rest n (fill_inside h) e g first e'

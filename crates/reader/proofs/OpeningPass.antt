@@ -6,11 +6,11 @@ use Prim.Native.Nat.{ℕ, suc, ◌+◌, ◌-◌, ◌≤◌, ◌<◌}
 use native.Mathlib.Omega.{arith}
 use mir.Syntax.{w64}
 use mir.Val.{Fits}
-use lib.ListN.{length, take, drop, length-append, length-drop}
+use lib.ListN.{length, take, drop, length-append}
 use Rattle.number.proofs.Numbers.{below_or}
 use Rattle.line.specs.Text.{lines, Found}
 use Rattle.line.specs.Line.{Content, rule, node, step, states, slot, Line, right, parse}
-use Rattle.line.specs.Means.{Answer, held, means, label_in, in_line, LineIs}
+use Rattle.line.specs.Means.{Answer, held, means, LineIs}
 use Rattle.line.specs.declared.line.Content as held-type
 use Rattle.line.specs.declared.line.Content.TheVariants as contents
 use Rattle.std.specs.Prelude.{Ok, Err}
@@ -19,7 +19,7 @@ use Rattle.line.proofs.Sane.{Sane}
 use Rattle.book.specs.Book.{Book, fault, add, add_line, accepted, read_on}
 use Rattle.reader.specs.BookTables.{SlotTables, slot_columns, over, cells, slots_written}
 use Rattle.reader.specs.Answer.{RoomySlots}
-use Rattle.reader.specs.FillingPass.{SlotRoom, SlotPut, SlotRoomFor, SlotsKept, SlotLeftBy, SlotLineRoom, SlotLinePut, SlotsFillable, FilledSlots}
+use Rattle.reader.specs.FillingPass.{SlotRoom, SlotDone, SlotRoomFor, SlotsKept, SlotLeftBy, SlotLineRoom, SlotLinePut, SlotsFillable, FilledSlots}
 use Rattle.reader.proofs.Sounds.{Passed, PassedLine, passed, sane, label_short, slots_left, Sound}
 use Rattle.reader.proofs.Runs.{roomy_slots_is, map_long, accepted_inj, unless_none}
 use Rattle.reader.proofs.Fills.{line_right}
@@ -52,31 +52,18 @@ module _ (line : List ℕ) (l : Answer) (is : LineIs line l) where
         go (contents.Slot a b c) h = absurd (h a b c refl)
 
     module _ (start len width : ℕ) (p : x ≡ contents.Slot start len width) where
-      slot_in_lem : start + len ≤ length line
-      slot_in_lem = subst (label_in (length line)) p (subst (in_line (length line)) e is.inside)
-
-      pub slot_start : start ≤ length line
-      slot_start = omega (arith, slot_in_lem)
-
-      pub slot_len : (rest : List ℕ) → rest ≡ drop start line → len ≤ length rest
-      slot_len rest q = omega (arith, ap length q, length-drop start line, slot_in_lem)
-
-      module _ (names lens widths : List ℕ) (k : ℕ) (rest name : List ℕ) (q : rest ≡ drop start line) (r : name ≡ take len rest) where
+      module _ (u : SlotTables) (k : ℕ) (rest name : List ℕ) (q : rest ≡ drop start line) (r : name ≡ take len rest) where
         name_held : held line x ≡ slot name width
         name_held = ap (held line) p ∙ ap (λ (y : List ℕ). slot y width) (ap (take len) (sym q) ∙ sym r)
 
-        pub slot_room : SlotLineRoom line (slot_columns names lens widths) k → SlotRoom names lens widths name k
+        pub slot_room : SlotLineRoom line u k → SlotRoom name u k
         slot_room m = m.room (slot name width) (slot_held ∙ ap right name_held)
 
-        pub slot_fits : SlotLineRoom line (slot_columns names lens widths) k → Fits w64 (k + 1)
+        pub slot_fits : SlotLineRoom line u k → Fits w64 (k + 1)
         slot_fits m = record { fits = omega (arith, (slot_room m).few) }
 
-        pub slot_put : (names' lens' widths' : List ℕ) → SlotPut names lens widths name width k names' lens' widths'
-            → SlotLinePut line (slot_columns names lens widths) k (slot_columns names' lens' widths') (k + 1)
-        slot_put names' lens' widths' s =
-            only (slot_columns names lens widths) k (slot_columns names' lens' widths') (k + 1)
-            (subst (λ (y : Content). SlotLeftBy y (slot_columns names lens widths) k (slot_columns names' lens' widths') (k + 1)) (sym name_held)
-            (record { put = s; count = refl }))
+        pub slot_put : (u' : SlotTables) → SlotDone name width u k u' (k + 1) → SlotLinePut line u k u' (k + 1)
+        slot_put u' s = only u k u' (k + 1) (subst (λ (y : Content). SlotLeftBy y u k u' (k + 1)) (sym name_held) s)
 
 -- ---- further lines add slots behind those that stand, names and widths alike
 pub record Grown (b c : Book) : Type 0 where
@@ -180,11 +167,11 @@ module _ (b : Book) (u : SlotTables) (s : Sound b) (r : RoomySlots u) (n k : ℕ
         let few : length b.names < 32 = slots_left b l w p in
         let long : length (map length b.names) ≡ length b.names = map_long b.names in (
           slots_eq u' (slots_written (add n b (slot l w)) u)
-              (d.put.names_is ∙ cells_snoc b.names l u.names k e s.names_short (label_short l h.name) (omega (arith, few, r.names)))
-              (d.put.lens_is
+              (d.names_is ∙ cells_snoc b.names l u.names k e s.names_short (label_short l h.name) (omega (arith, few, r.names)))
+              (d.lens_is
               ∙ over_snoc (map length b.names) u.lens k (length l) (e ∙ sym long) (omega (arith, few, r.lens))
               ∙ ap (λ (x : List ℕ). over x u.lens) (sym (map_snoc b.names l)))
-              (d.put.widths_is ∙ over_snoc b.widths u.widths k w (e ∙ sym s.widths_long) (omega (arith, s.widths_long, few, r.widths))),
+              (d.widths_is ∙ over_snoc b.widths u.widths k w (e ∙ sym s.widths_long) (omega (arith, s.widths_long, few, r.widths))),
           d.count ∙ ap (λ (x : ℕ). x + 1) e ∙ sym (length-append b.names (l ∷ [])),
         )
 

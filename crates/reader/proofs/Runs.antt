@@ -178,21 +178,21 @@ module _ (b : Book) (t : BookTables) (s : Sound b) (r : Roomy t) where
         let few : length b.labels < 64 = rules_left b l k p in
         let long : length (map length b.labels) ≡ length b.labels = map_long b.labels in (
           tables_eq t' (written (add n b (rule l k)) t)
-              (d.put.labels_is ∙ cells_snoc b.labels l t.labels f.rules a.rules s.short h (omega (arith, few, r.labels)))
-              (d.put.lens_is
+              (d.labels_is ∙ cells_snoc b.labels l t.labels f.rules a.rules s.short h (omega (arith, few, r.labels)))
+              (d.lens_is
               ∙ over_snoc (map length b.labels) t.lens f.rules (length l) (a.rules ∙ sym long) (omega (arith, few, r.lens))
               ∙ ap (λ (x : List ℕ). over x t.lens) (sym (map_snoc b.labels l)))
-              (d.put.kinds_is ∙ over_snoc b.kinds t.kinds f.rules k (a.rules ∙ sym s.kinds_long) (omega (arith, s.kinds_long, few, r.kinds)))
-              (d.put.firsts_is
+              (d.kinds_is ∙ over_snoc b.kinds t.kinds f.rules k (a.rules ∙ sym s.kinds_long) (omega (arith, s.kinds_long, few, r.kinds)))
+              (d.firsts_is
               ∙ ap (set (over b.firsts t.firsts) f.rules) a.nodes
               ∙ over_snoc b.firsts t.firsts f.rules (length b.ops) (a.rules ∙ sym s.firsts_long) (omega (arith, s.firsts_long, few, r.firsts)))
-              (d.put.counts_is ∙ over_snoc b.counts t.counts f.rules 0 (a.rules ∙ sym s.counts_long) (omega (arith, s.counts_long, few, r.counts)))
+              (d.counts_is ∙ over_snoc b.counts t.counts f.rules 0 (a.rules ∙ sym s.counts_long) (omega (arith, s.counts_long, few, r.counts)))
               d.ops_kept
               d.nums_kept,
           record {
-            rules = d.put.rules_is ∙ ap (λ (x : ℕ). x + 1) a.rules ∙ sym (length-append b.labels (l ∷ []));
-            nodes = d.put.nodes_is ∙ a.nodes;
-            own = d.put.own_is ∙ sym (last_snoc b.counts 0);
+            rules = d.rules_is ∙ ap (λ (x : ℕ). x + 1) a.rules ∙ sym (length-append b.labels (l ∷ []));
+            nodes = d.nodes_is ∙ a.nodes;
+            own = d.own_is ∙ sym (last_snoc b.counts 0);
           },
         )
 
@@ -207,14 +207,14 @@ module _ (b : Book) (t : BookTables) (s : Sound b) (r : Roomy t) where
               d.lens_kept
               d.kinds_kept
               d.firsts_kept
-              (d.put.counts_is
+              (d.counts_is
               ∙ over_bump b.counts t.counts (f.rules - 1) (f.own + 1) some-count (omega (arith, a.rules, s.counts_long)) (ap (λ (x : ℕ). x + 1) a.own))
-              (d.put.ops_is ∙ over_snoc b.ops t.ops f.nodes op a.nodes (omega (arith, less, r.ops)))
-              (d.put.nums_is ∙ over_snoc b.nums t.nums f.nodes v (a.nodes ∙ sym s.nums_long) (omega (arith, s.nums_long, less, r.nums))),
+              (d.ops_is ∙ over_snoc b.ops t.ops f.nodes op a.nodes (omega (arith, less, r.ops)))
+              (d.nums_is ∙ over_snoc b.nums t.nums f.nodes v (a.nodes ∙ sym s.nums_long) (omega (arith, s.nums_long, less, r.nums))),
           record {
-            rules = d.put.rules_is ∙ a.rules;
-            nodes = d.put.nodes_is ∙ ap (λ (x : ℕ). x + 1) a.nodes ∙ sym (length-append b.ops (op ∷ []));
-            own = d.put.own_is ∙ ap (λ (x : ℕ). x + 1) a.own ∙ sym (last_bump b.counts some-count);
+            rules = d.rules_is ∙ a.rules;
+            nodes = d.nodes_is ∙ ap (λ (x : ℕ). x + 1) a.nodes ∙ sym (length-append b.ops (op ∷ []));
+            own = d.own_is ∙ ap (λ (x : ℕ). x + 1) a.own ∙ sym (last_bump b.counts some-count);
           },
         )
 

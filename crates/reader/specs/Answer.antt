@@ -2,17 +2,12 @@
 -- table holds afterwards.
 use Rattle.std.specs.Prelude.{◌≡◌, List, ℕ, ◌≤◌, length}
 use Rattle.terms.specs.Limits.{book_nodes, book_rules, book_slots, labels_room, names_room}
-use Rattle.book.specs.Book.{BookResult, contents, refusal, book_result}
+use Rattle.book.specs.Book.{book_result}
+use Rattle.book.specs.Checked.{result_of}
 use Rattle.reader.specs.BookTables.{BookTables, SlotTables, read_into, after, slots_after}
-use Rattle.std.specs.Prelude.{Result, Ok, Err}
-use Rattle.result.specs.Refusal.{number_of}
+use Rattle.std.specs.Prelude.{Result}
 use Rattle.book.specs.declared.check.Refused.{Refused}
-use Rattle.reader.specs.declared.read.Read.{Read}
-
--- document 01's result for each case of the answer
-abbrev pub result_of : Result Read Refused → BookResult
-result_of (Ok a) = contents a.rules a.nodes a.steps_at a.slots a.states
-result_of (Err r) = refusal (number_of r.refusal) r.line
+use Rattle.book.specs.declared.check.Read.{Read}
 
 pub record Reads (text : List ℕ) (t : BookTables) (u : SlotTables) (r : Result Read Refused) (t' : BookTables) (u' : SlotTables) : Type 0 where
   pub answer : result_of r ≡ book_result (read_into text t u)

@@ -10,46 +10,54 @@ use Rattle.reader.specs.declared.fill.Tally.{Tally}
 abbrev pub placed : List ℕ → ℕ → List ℕ → List ℕ
 placed l k xs = take k l ++ xs ++ drop (k + length xs) l
 
-pub record RuleRoom (labels lens kinds firsts counts label : List ℕ) (f : Tally) : Type 0 where
-  pub in_labels : labels_room ≤ length labels
-  pub in_lens : book_rules ≤ length lens
-  pub in_kinds : book_rules ≤ length kinds
-  pub in_firsts : book_rules ≤ length firsts
-  pub in_counts : book_rules ≤ length counts
+pub record RuleRoom (label : List ℕ) (t : BookTables) (f : Tally) : Type 0 where
+  pub in_labels : labels_room ≤ length t.labels
+  pub in_lens : book_rules ≤ length t.lens
+  pub in_kinds : book_rules ≤ length t.kinds
+  pub in_firsts : book_rules ≤ length t.firsts
+  pub in_counts : book_rules ≤ length t.counts
   pub few : f.rules < book_rules
   pub short : length label ≤ label_bytes
 
-pub record RulePut (labels lens kinds firsts counts label : List ℕ) (kind : ℕ) (f : Tally) (labels' lens' kinds' firsts' counts' : List ℕ) (r : Tally) : Type 0 where
-  pub labels_is : labels' ≡ placed labels (label_bytes * f.rules) label
-  pub lens_is : lens' ≡ set lens f.rules (length label)
-  pub kinds_is : kinds' ≡ set kinds f.rules kind
-  pub firsts_is : firsts' ≡ set firsts f.rules f.nodes
-  pub counts_is : counts' ≡ set counts f.rules 0
-  pub rules_is : r.rules ≡ f.rules + 1
-  pub nodes_is : r.nodes ≡ f.nodes
-  pub own_is : r.own ≡ 0
+-- a rule's head is stored at its place, and the formula table stays
+pub record RuleDone (label : List ℕ) (kind : ℕ) (t : BookTables) (f : Tally) (t' : BookTables) (f' : Tally) : Type 0 where
+  pub labels_is : t'.labels ≡ placed t.labels (label_bytes * f.rules) label
+  pub lens_is : t'.lens ≡ set t.lens f.rules (length label)
+  pub kinds_is : t'.kinds ≡ set t.kinds f.rules kind
+  pub firsts_is : t'.firsts ≡ set t.firsts f.rules f.nodes
+  pub counts_is : t'.counts ≡ set t.counts f.rules 0
+  pub ops_kept : t'.ops ≡ t.ops
+  pub nums_kept : t'.nums ≡ t.nums
+  pub rules_is : f'.rules ≡ f.rules + 1
+  pub nodes_is : f'.nodes ≡ f.nodes
+  pub own_is : f'.own ≡ 0
 
-pub record NodeRoom (counts ops nums : List ℕ) (f : Tally) : Type 0 where
-  pub in_counts : book_rules ≤ length counts
-  pub in_ops : book_nodes ≤ length ops
-  pub in_nums : book_nodes ≤ length nums
+pub record NodeRoom (t : BookTables) (f : Tally) : Type 0 where
+  pub in_counts : book_rules ≤ length t.counts
+  pub in_ops : book_nodes ≤ length t.ops
+  pub in_nums : book_nodes ≤ length t.nums
   pub begun : 1 ≤ f.rules
   pub few : f.rules ≤ book_rules
   pub less : f.nodes < book_nodes
   pub own : f.own < rule_nodes
 
-pub record NodePut (counts ops nums : List ℕ) (op num : ℕ) (f : Tally) (counts' ops' nums' : List ℕ) (r : Tally) : Type 0 where
-  pub counts_is : counts' ≡ set counts (f.rules - 1) (f.own + 1)
-  pub ops_is : ops' ≡ set ops f.nodes op
-  pub nums_is : nums' ≡ set nums f.nodes num
-  pub rules_is : r.rules ≡ f.rules
-  pub nodes_is : r.nodes ≡ f.nodes + 1
-  pub own_is : r.own ≡ f.own + 1
+-- a node is stored at its place and counted in its rule, and the rest of the rule list stays
+pub record NodeDone (op v : ℕ) (t : BookTables) (f : Tally) (t' : BookTables) (f' : Tally) : Type 0 where
+  pub labels_kept : t'.labels ≡ t.labels
+  pub lens_kept : t'.lens ≡ t.lens
+  pub kinds_kept : t'.kinds ≡ t.kinds
+  pub firsts_kept : t'.firsts ≡ t.firsts
+  pub counts_is : t'.counts ≡ set t.counts (f.rules - 1) (f.own + 1)
+  pub ops_is : t'.ops ≡ set t.ops f.nodes op
+  pub nums_is : t'.nums ≡ set t.nums f.nodes v
+  pub rules_is : f'.rules ≡ f.rules
+  pub nodes_is : f'.nodes ≡ f.nodes + 1
+  pub own_is : f'.own ≡ f.own + 1
 
 -- a line's room and what it leaves, by what it holds; a step stays in the text, and the opening lines have a pass of their own
 abbrev pub RoomFor : Content → BookTables → Tally → Type 0
-RoomFor (rule l k) t f = RuleRoom t.labels t.lens t.kinds t.firsts t.counts l f
-RoomFor (node op v) t f = NodeRoom t.counts t.ops t.nums f
+RoomFor (rule l k) t f = RuleRoom l t f
+RoomFor (node op v) t f = NodeRoom t f
 RoomFor (step s w) t f = Unit
 RoomFor (states c) t f = Unit
 RoomFor (slot l w) t f = Unit
@@ -58,18 +66,6 @@ RoomFor (slot l w) t f = Unit
 pub record Kept (t : BookTables) (f : Tally) (t' : BookTables) (f' : Tally) : Type 0 where
   pub tables : t' ≡ t
   pub fill : f' ≡ f
-
-pub record RuleDone (l : List ℕ) (k : ℕ) (t : BookTables) (f : Tally) (t' : BookTables) (f' : Tally) : Type 0 where
-  pub put : RulePut t.labels t.lens t.kinds t.firsts t.counts l k f t'.labels t'.lens t'.kinds t'.firsts t'.counts f'
-  pub ops_kept : t'.ops ≡ t.ops
-  pub nums_kept : t'.nums ≡ t.nums
-
-pub record NodeDone (op v : ℕ) (t : BookTables) (f : Tally) (t' : BookTables) (f' : Tally) : Type 0 where
-  pub put : NodePut t.counts t.ops t.nums op v f t'.counts t'.ops t'.nums f'
-  pub labels_kept : t'.labels ≡ t.labels
-  pub lens_kept : t'.lens ≡ t.lens
-  pub kinds_kept : t'.kinds ≡ t.kinds
-  pub firsts_kept : t'.firsts ≡ t.firsts
 
 abbrev pub LeftBy : Content → BookTables → Tally → BookTables → Tally → Type 0
 LeftBy (rule l k) t f t' f' = RuleDone l k t f t' f'
@@ -95,17 +91,19 @@ pub record FilledTables (text : List ℕ) (t t' : BookTables) : Type 0 where
   pub is : (b : Book) → read text ≡ accepted b → t' ≡ written b t
 
 -- ---- the slots
-pub record SlotRoom (names lens widths name : List ℕ) (k : ℕ) : Type 0 where
-  pub in_names : names_room ≤ length names
-  pub in_lens : book_slots ≤ length lens
-  pub in_widths : book_slots ≤ length widths
+pub record SlotRoom (name : List ℕ) (u : SlotTables) (k : ℕ) : Type 0 where
+  pub in_names : names_room ≤ length u.names
+  pub in_lens : book_slots ≤ length u.lens
+  pub in_widths : book_slots ≤ length u.widths
   pub few : k < book_slots
   pub short : length name ≤ label_bytes
 
-pub record SlotPut (names lens widths name : List ℕ) (width k : ℕ) (names' lens' widths' : List ℕ) : Type 0 where
-  pub names_is : names' ≡ placed names (label_bytes * k) name
-  pub lens_is : lens' ≡ set lens k (length name)
-  pub widths_is : widths' ≡ set widths k width
+-- a slot is stored at its place, and counted
+pub record SlotDone (name : List ℕ) (width : ℕ) (u : SlotTables) (k : ℕ) (u' : SlotTables) (k' : ℕ) : Type 0 where
+  pub names_is : u'.names ≡ placed u.names (label_bytes * k) name
+  pub lens_is : u'.lens ≡ set u.lens k (length name)
+  pub widths_is : u'.widths ≡ set u.widths k width
+  pub count : k' ≡ k + 1
 
 -- a slot's line fills its place, any other leaves everything
 abbrev pub SlotRoomFor : Content → SlotTables → ℕ → Type 0
@@ -113,15 +111,11 @@ SlotRoomFor (rule l v) u k = Unit
 SlotRoomFor (node op v) u k = Unit
 SlotRoomFor (step s w) u k = Unit
 SlotRoomFor (states c) u k = Unit
-SlotRoomFor (slot l w) u k = SlotRoom u.names u.lens u.widths l k
+SlotRoomFor (slot l w) u k = SlotRoom l u k
 
 pub record SlotsKept (u : SlotTables) (k : ℕ) (u' : SlotTables) (k' : ℕ) : Type 0 where
   pub tables : u' ≡ u
   pub count : k' ≡ k
-
-pub record SlotDone (l : List ℕ) (w : ℕ) (u : SlotTables) (k : ℕ) (u' : SlotTables) (k' : ℕ) : Type 0 where
-  pub put : SlotPut u.names u.lens u.widths l w k u'.names u'.lens u'.widths
-  pub count : k' ≡ k + 1
 
 abbrev pub SlotLeftBy : Content → SlotTables → ℕ → SlotTables → ℕ → Type 0
 SlotLeftBy (rule l v) u k u' k' = SlotsKept u k u' k'

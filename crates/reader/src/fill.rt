@@ -1,7 +1,7 @@
 // The filling pass over a book that is accepted: the rule list and the formula table, a line at a time.
 ghost use Rattle.std.specs.Prelude.{◌≡◌, ◌+◌, ◌*◌, ◌≤◌, ◌<◌, length};
 ghost use Rattle.reader.specs.Lists.{tables_in, SameTables};
-ghost use Rattle.reader.specs.FillingPass.{placed, RuleRoom, RulePut, NodeRoom, NodePut, LineRoom, LinePut, Fillable, FilledTables};
+ghost use Rattle.reader.specs.FillingPass.{placed, RuleRoom, RuleDone, NodeRoom, NodeDone, LineRoom, LinePut, Fillable, FilledTables};
 
 use crate::tables::BookTables;
 use line::line::{Content, read_line};
@@ -26,22 +26,17 @@ pub(crate) fn copy_in(dst: &mut [u8], at: usize, src: &[u8])
 
 // A rule's head at its place of the rule list.
 fn put_rule(tables: &mut BookTables, label: &[u8], kind: u8, f: Tally) -> Tally
-    requires { RuleRoom tables.old.labels.now tables.old.lens.now tables.old.kinds.now tables.old.firsts.now tables.old.counts.now label.now f }
-    ensures put { RulePut tables.old.labels.now tables.old.lens.now tables.old.kinds.now tables.old.firsts.now tables.old.counts.now
-        label.now kind f tables.new.labels.now tables.new.lens.now tables.new.kinds.now tables.new.firsts.now tables.new.counts.now result }
-    ensures rest { (tables.new.ops.now ≡ tables.old.ops.now) × (tables.new.nums.now ≡ tables.old.nums.now) }
+    requires { RuleRoom label.now (tables_in tables.old) f }
+    ensures put { RuleDone label.now kind (tables_in tables.old) f (tables_in tables.new) result }
     ensures same { SameTables tables.old tables.new }
 {
-    let r = f.rules;
-    let n = f.nodes;
-    let len = label.len();
-    copy_in(tables.labels, LABEL_BYTES * r, label);
-    tables.lens[r] = len;
-    tables.kinds[r] = kind;
-    tables.firsts[r] = n;
-    tables.counts[r] = 0;
+    copy_in(tables.labels, LABEL_BYTES * f.rules, label);
+    tables.lens[f.rules] = label.len();
+    tables.kinds[f.rules] = kind;
+    tables.firsts[f.rules] = f.nodes;
+    tables.counts[f.rules] = 0;
     Tally {
-        rules: r + 1,
+        rules: f.rules + 1,
         own: 0,
         ..f
     }
@@ -49,23 +44,16 @@ fn put_rule(tables: &mut BookTables, label: &[u8], kind: u8, f: Tally) -> Tally
 
 // A node at its place of the formula table, counted in its rule.
 fn put_node(tables: &mut BookTables, op: u8, num: u64, f: Tally) -> Tally
-    requires { NodeRoom tables.old.counts.now tables.old.ops.now tables.old.nums.now f }
-    ensures put { NodePut tables.old.counts.now tables.old.ops.now tables.old.nums.now op num f tables.new.counts.now tables.new.ops.now tables.new.nums.now result }
-    ensures rest { (tables.new.labels.now ≡ tables.old.labels.now) × (tables.new.lens.now ≡ tables.old.lens.now) × (tables.new.kinds.now ≡ tables.old.kinds.now)
-        × (tables.new.firsts.now ≡ tables.old.firsts.now) }
+    requires { NodeRoom (tables_in tables.old) f }
+    ensures put { NodeDone op num (tables_in tables.old) f (tables_in tables.new) result }
     ensures same { SameTables tables.old tables.new }
 {
-    let r = f.rules;
-    let n = f.nodes;
-    let own = f.own;
-    let last = r - 1;
-    let more = own + 1;
-    tables.counts[last] = more;
-    tables.ops[n] = op;
-    tables.nums[n] = num;
+    tables.counts[f.rules - 1] = f.own + 1;
+    tables.ops[f.nodes] = op;
+    tables.nums[f.nodes] = num;
     Tally {
-        nodes: n + 1,
-        own: more,
+        nodes: f.nodes + 1,
+        own: f.own + 1,
         ..f
     }
 }
@@ -73,8 +61,7 @@ fn put_node(tables: &mut BookTables, op: u8, num: u64, f: Tally) -> Tally
 // One line.
 fn put_line(line: &[u8], tables: &mut BookTables, f: Tally) -> Tally
     requires { LineRoom line.now (tables_in tables.old) f }
-    ensures put { LinePut line.now
-        (tables_in tables.old) f (tables_in tables.new) result }
+    ensures put { LinePut line.now (tables_in tables.old) f (tables_in tables.new) result }
     ensures same { SameTables tables.old tables.new }
 {
     let Ok(content) = read_line(line) else {
@@ -82,8 +69,7 @@ fn put_line(line: &[u8], tables: &mut BookTables, f: Tally) -> Tally
     };
     match content {
         Content::Rule { start, len, kind } => {
-            let rest = past(line, start);
-            let label = upto(rest, len);
+            let label = upto(past(line, start), len);
             put_rule(tables, label, u8::from(kind), f)
         }
         Content::Node { op, num } => put_node(tables, op, num, f),
@@ -96,8 +82,7 @@ fn put_line(line: &[u8], tables: &mut BookTables, f: Tally) -> Tally
 // All lines before the step lines, which begin at `head`.
 pub(crate) fn fill(text: &[u8], head: usize, tables: &mut BookTables)
     requires { Fillable text.now head (tables_in tables.old) }
-    ensures put { FilledTables text.now
-        (tables_in tables.old) (tables_in tables.new) }
+    ensures put { FilledTables text.now (tables_in tables.old) (tables_in tables.new) }
     ensures same { SameTables tables.old tables.new }
 {
     let mut f = Tally {

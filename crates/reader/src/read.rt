@@ -7,18 +7,8 @@ ghost use Rattle.reader.specs.Answer.{Roomy, RoomySlots, Reads};
 use crate::fill::fill;
 use crate::slots::fill_slots;
 use crate::tables::{BookTables, SlotTables};
-use book::check::{Refused, check};
+use book::check::{Read, Refused, check};
 use result::Refusal;
-
-// How much was read, where the step lines begin, and the count of states.
-#[derive(Clone, Copy, Debug, PartialEq, Eq)]
-pub struct Read {
-    pub rules: usize,
-    pub nodes: usize,
-    pub steps_at: usize,
-    pub slots: usize,
-    pub states: Option<u64>,
-}
 
 // Into tables with room.
 fn read_roomy(text: &[u8], tables: &mut BookTables, slots: &mut SlotTables) -> Result<Read, Refused>
@@ -27,16 +17,10 @@ fn read_roomy(text: &[u8], tables: &mut BookTables, slots: &mut SlotTables) -> R
     ensures same_tables { SameTables tables.old tables.new }
     ensures same_slots { SameSlots slots.old slots.new }
 {
-    let held = check(text)?;
-    fill(text, held.head, tables);
-    fill_slots(text, held.slots, slots);
-    Ok(Read {
-        rules: held.rules,
-        nodes: held.nodes,
-        steps_at: held.head,
-        slots: held.slots,
-        states: held.states,
-    })
+    let read = check(text)?;
+    fill(text, read.steps_at, tables);
+    fill_slots(text, read.slots, slots);
+    Ok(read)
 }
 
 // Whether every table has its room.

@@ -5,7 +5,8 @@ use Rattle.std.specs.Prelude.{ℕ, Ok, Err}
 use Rattle.std.specs.Prelude.{Result as Returned}
 use Rattle.result.specs.Result.{Result, given, refused}
 use Rattle.result.specs.declared.Refusal.{Refusal}
-use Rattle.result.specs.declared.Refusal.TheVariants.{Short, Unfit, Long, Unended, Word, Place, Label, Number, Limit, Unfinished, Unopened, NestedFor, ZeroFor, Antecedent, WithinOperand, NextConsequent, Consequent, NextOperand, NotOperand, Liveness, EventuallyOperand, UntilOperand, LivenessBelow, NoLivenessBelow, Late, Failed, Unsaved}
+use Rattle.result.specs.declared.Refusal.TheVariants.{Short, Unfit, Long, Unended, Word, Place, Label, Number, Limit, Unfinished, Unopened, NestedFor, ZeroFor, Antecedent, WithinOperand, NextConsequent}
+use Rattle.result.specs.declared.Refusal.TheVariants.{Consequent, NextOperand, NotOperand, Liveness, EventuallyOperand, UntilOperand, LivenessBelow, NoLivenessBelow, Late, Failed, Unsaved}
 
 abbrev pub number_of : Refusal → ℕ
 number_of Short = 1

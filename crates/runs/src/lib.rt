@@ -8,7 +8,7 @@ ghost use Rattle.stepping.specs.Call.{Answers, Fit};
 ghost use Rattle.runs.specs.Run.{in_time, many_steps, run_call};
 
 use lent::Frame;
-use lent::refusal::refusal_of;
+use lent::refusal::admit_monitor;
 use monitor::table::{Part, Tables};
 use node_step::state::Memory;
 use result::Refusal;
@@ -19,6 +19,7 @@ use terms::limit::STEPS;
 fn in_time(s: u64, words: &[u64]) -> bool
     ensures { result ≡ in_time s words.now }
 {
+    // `as`: the number fits, and a `TryFrom` would have an error that cannot be
     words.is_empty() || s < STEPS && words.len() as u64 <= STEPS - s
 }
 
@@ -60,9 +61,7 @@ pub fn run(
     ensures stepped { Answers (run_call (tables_of tables.now part) (lent_monitor frame.now (memory_of memory.old)) s words.now) result (memory_of memory.new) }
     ensures same { SameLists memory.old memory.new }
 {
-    if let Some(refusal) = refusal_of(tables, part, frame, &memory.entries()) {
-        return Err(refusal);
-    }
+    admit_monitor(tables, part, frame, &memory.entries())?;
     if !in_time(s, words) {
         return Err(Refusal::Late);
     }

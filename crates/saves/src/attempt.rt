@@ -4,7 +4,7 @@ use result::Refusal;
 use std::{fmt, io};
 
 // How an attempt ended: the bytes are restored, are refused, or neither as it is to be.
-#[derive(Clone, Copy, PartialEq, Eq)]
+#[derive(Clone, Copy, Debug, PartialEq, Eq)]
 enum Attempt {
     Read,
     Unread,

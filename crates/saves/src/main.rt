@@ -42,13 +42,14 @@ fn run_one(rt: &impl Print, text: &[u8], book: &Book, r: usize) -> io::Result<()
     let Ok(ncount) = book.compile(r, &mut nodes) else {
         return Ok(());
     };
+    let span = book.formula(r);
     let rule = Rule {
         number: r,
         tables: Tables::new(&book.ops, &book.nums, &nodes),
         part: Part {
-            first: book.firsts[r],
-            count: book.counts[r],
-            nfirst: book.firsts[r],
+            first: span.first,
+            count: span.count,
+            nfirst: span.first,
             ncount,
         },
     };

@@ -5,6 +5,7 @@ ghost use Rattle.saving_in_place.specs.SavedInPlace.{restore_in};
 
 use in_place::ReferenceMonitor;
 use in_place::fresh::Started;
+use lent::Blank;
 use monitor::table::{Part, Tables};
 use node_step::state::Memory;
 use result::Refusal;
@@ -21,14 +22,11 @@ pub fn restored(m: ReferenceMonitor, tables: &Tables, part: Part, bytes: &[u8]) 
         failed: &mut monitor.failed,
         culprits: &mut monitor.culprits,
     };
-    let outcome = saving::restore::restore(
-        tables,
-        part,
-        &mut monitor.forms,
-        &mut monitor.bounds,
-        &mut memory,
-        bytes,
-    );
+    let mut blank = Blank {
+        forms: &mut monitor.forms,
+        bounds: &mut monitor.bounds,
+    };
+    let outcome = saving::restore::restore(tables, part, &mut blank, &mut memory, bytes);
     monitor.size = outcome.unwrap_or(m.size);
     Started { monitor, outcome }
 }

@@ -3,12 +3,12 @@ ghost use Rattle.std.specs.Prelude.{◌<◌, ◌≤◌};
 ghost use Rattle.terms.specs.Limits.{book_rules};
 
 use alike::alike;
-use encoding::ConfigEncoding;
+use encoding::{ConfigEncoding, Opening};
 use layout::book::layout;
 use layout::rule::{layout_for, node_slot};
 use monitor::table::{Part, Tables};
 use opened::Book;
-use plan::layout::{RuleList, Slot};
+use plan::layout::{RuleBits, RuleList, Slot};
 use result::Refusal;
 use terms::limit::{BOOK_CELLS, BOOK_RULES, BOOK_SLOTS};
 
@@ -59,10 +59,11 @@ impl Rules {
     pub(crate) fn part(&self, r: usize) -> Part
         requires { r < book_rules }
     {
+        let span = self.book.formula(r);
         Part {
-            first: self.book.firsts[r],
-            count: self.book.counts[r],
-            nfirst: self.book.firsts[r],
+            first: span.first,
+            count: span.count,
+            nfirst: span.first,
             ncount: self.ncounts[r],
         }
     }
@@ -88,24 +89,20 @@ impl Rules {
         let mut bits = [0u64; BOOK_RULES];
         let mut places = [0u64; BOOK_SLOTS];
         let rules = RuleList {
+            tables: self.tables(),
             kinds: &self.book.kinds,
             refusals: &self.refusals,
             firsts: &self.book.firsts,
             counts: &self.book.counts,
             nfirsts: &self.book.firsts,
             ncounts: &self.ncounts,
+            len: n,
         };
-        let plan = layout(
-            &self.tables(),
-            &rules,
-            n,
-            opening.states,
-            &opening.widths,
-            opening.slots,
-            &mut starts,
-            &mut bits,
-            &mut places,
-        );
+        let mut out = RuleBits {
+            starts: &mut starts,
+            bits: &mut bits,
+        };
+        let plan = layout(&rules, opening, &mut out, &mut places);
         Laid {
             plan,
             starts,
@@ -113,14 +110,6 @@ impl Rules {
             places,
         }
     }
-}
-
-// What a book opens with: its count of states, and its slots' widths, the first `slots` of them.
-#[derive(Clone, Copy)]
-pub(crate) struct Opening {
-    pub states: u64,
-    pub slots: usize,
-    pub widths: [u64; BOOK_SLOTS],
 }
 
 // The numbers of the whole, or why there are none; first bits and bits of the rules, and the first bits of the slots.

@@ -11,9 +11,10 @@ mod show;
 ghost use Rattle.std.specs.Prelude.{◌≤◌};
 ghost use Rattle.terms.specs.Limits.{book_rules};
 
-use crate::compile::{Opening, Rules};
+use crate::compile::Rules;
 use crate::misuse::try_misuse;
 use crate::show::{show_alike, show_plan, show_rules, show_vars};
+use encoding::Opening;
 use input::{TEXT_ROOM, read_full};
 use opened::{Book, open_book};
 use std::io;
@@ -25,8 +26,8 @@ fn run_rules(rt: &impl Print, book: Book) -> io::Result<()>
     let widths = book.widths;
     let opening = Opening {
         states: book.read.states.unwrap_or(0),
+        widths: &widths,
         slots: book.read.slots,
-        widths,
     };
     let mut rules = Rules::compiled(book);
     let laid = rules.lay_out(rules.count(), &opening);

@@ -2,8 +2,9 @@
 ghost use Rattle.std.specs.Prelude.{◌<◌};
 ghost use Rattle.terms.specs.Limits.{book_rules};
 
-use crate::compile::{Opening, Rules};
+use crate::compile::Rules;
 use crate::show::show_refused;
+use encoding::Opening;
 use result::Refusal;
 use std::io;
 use terms::limit::BOOK_SLOTS;
@@ -44,19 +45,23 @@ fn try_rule(rt: &impl Print, rules: &mut Rules, r: usize, opening: &Opening) -> 
 
 // The layout with too many states, with 33 slots, and with a slot of 65 bits.
 fn try_opening(rt: &impl Print, rules: &Rules) -> io::Result<()> {
+    let mut widths = [0; BOOK_SLOTS];
     let mut opening = Opening {
         states: 65536,
+        widths: &widths,
         slots: 0,
-        widths: [0; BOOK_SLOTS],
     };
     laid_out(rt, rules, rules.count(), &opening)?;
     opening.states = 0;
     opening.slots = 33;
     laid_out(rt, rules, rules.count(), &opening)?;
-    opening.states = 65535;
-    opening.slots = 32;
-    opening.widths[31] = 65;
-    laid_out(rt, rules, rules.count(), &opening)
+    widths[31] = 65;
+    let wide = Opening {
+        states: 65535,
+        widths: &widths,
+        slots: 32,
+    };
+    laid_out(rt, rules, rules.count(), &wide)
 }
 
 // The calls over each of the rules, and the layout of 65.

@@ -2,8 +2,8 @@
 ghost use Rattle.std.specs.Prelude.{◌<◌};
 ghost use Rattle.terms.specs.Limits.{book_rules};
 
-use crate::compile::{Laid, Opening, Rules};
-use encoding::ConfigEncoding;
+use crate::compile::{Laid, Rules};
+use encoding::{ConfigEncoding, Opening};
 use letters::{length, letter};
 use monitor::table::Part;
 use result::Refusal;
@@ -11,7 +11,7 @@ use std::io;
 use terms::op::VAR;
 use terms::word::{RULE, SLOT};
 
-// A line word, by its number.
+// A line word, by its number. Four lines, in book_tests too: a shared function would want a contract of what is written.
 fn show_word(rt: &impl Print, k: u8) -> io::Result<()> {
     for i in 0..length(k) {
         rt.write_all(&[letter(k, i)])?;
@@ -37,7 +37,7 @@ pub(crate) fn show_plan(rt: &impl Print, plan: Result<ConfigEncoding, Refusal>) 
 
 // The first bits and widths of the slots.
 pub(crate) fn show_vars(rt: &impl Print, laid: &Laid, opening: &Opening) -> io::Result<()> {
-    let lines = laid.places.iter().zip(&opening.widths).take(opening.slots);
+    let lines = laid.places.iter().zip(opening.widths).take(opening.slots);
     for (k, (place, width)) in lines.enumerate() {
         show_word(rt, VAR)?;
         println!(rt; "\t{k}\t{place}\t{width}")?;

@@ -3,99 +3,96 @@ ghost use Rattle.std.specs.Prelude.{true, false, [], ◌∷◌, ◌-◌, ◌<◌
 ghost use Rattle.formula.specs.Formula.{node};
 ghost use Rattle.formula.specs.Spells.{run};
 ghost use Rattle.formula.specs.Table.{node_at};
-ghost use Rattle.text.specs.Tape.{tape, Wrote};
+ghost use Rattle.text.specs.Tape.{Wrote};
+ghost use Rattle.text.specs.Lent.{tape_of, SameOut};
 ghost use Rattle.spelling.specs.Scan.{letter, node_text, run_text, Pure, Inside, Spelled};
 
 use formula::table::FormulaTable;
-use terms::op::{AND, IMPLIES, IN, NEXT, NOT, OR, OUT};
-use text::write::{put_byte, put_decimal};
+use terms::op::{AND, IMPLIES, IN, NEXT, NOT, OR, OUT, UNTIL};
+use text::write::Tape;
 
 // An atom's letter: v, i or o.
-fn put_letter(out: &mut [u8], at: usize, op: u8) -> usize
+fn put_letter(tape: &mut Tape, op: u8)
     requires { op < 3 }
-    ensures { Wrote (tape out.old at) (letter op ∷ []) (tape out.new result) }
+    ensures wrote { Wrote (tape_of tape.old) (letter op ∷ []) (tape_of tape.new) }
+    ensures same { SameOut tape.old tape.new }
 {
     if op < IN {
-        return put_byte(out, at, 118);
+        return tape.put_byte(b'v');
     }
     if op < OUT {
-        return put_byte(out, at, 105);
+        return tape.put_byte(b'i');
     }
-    put_byte(out, at, 111)
+    tape.put_byte(b'o');
 }
 
 // What the node of word `op` with number `n` adds to the text.
-pub fn put_word(out: &mut [u8], at: usize, op: u8, n: u64, owing: bool) -> usize
-    ensures { Wrote (tape out.old at) (node_text owing (node op n)) (tape out.new result) }
+pub fn put_word(tape: &mut Tape, op: u8, n: u64, owing: bool)
+    ensures wrote { Wrote (tape_of tape.old) (node_text owing (node op n)) (tape_of tape.new) }
+    ensures same { SameOut tape.old tape.new }
 {
     if op < NOT {
-        let place = put_letter(out, at, op);
-        return put_decimal(out, place, n);
+        put_letter(tape, op);
+        return tape.put_decimal(n);
     }
     if op < NEXT {
-        return put_byte(out, at, 33);
+        return tape.put_byte(b'!');
     }
     if op < AND {
-        return at;
+        return;
     }
     if op < OR {
-        return put_byte(out, at, 38);
+        return tape.put_byte(b'&');
     }
     if op < IMPLIES {
-        return put_byte(out, at, 124);
+        return tape.put_byte(b'|');
     }
-    if 12 <= op {
-        return at;
+    if UNTIL <= op {
+        return;
     }
     if owing {
-        return put_byte(out, at, 62);
+        return tape.put_byte(b'>');
     }
-    let place = put_byte(out, at, 124);
-    put_byte(out, place, 33)
+    tape.put_byte(b'|');
+    tape.put_byte(b'!');
 }
 
 // What the nodes from i up to e add to the text.
-fn put_run(
-    out: &mut [u8],
-    at: usize,
-    table: &FormulaTable,
-    i: usize,
-    e: usize,
-    owing: bool,
-) -> usize
+fn put_run(tape: &mut Tape, table: &FormulaTable, i: usize, e: usize, owing: bool)
     requires { Inside table.now.ops.now table.now.nums.now i e }
-    ensures { Wrote (tape out.old at) (run_text owing (run (node_at table.now.ops.now table.now.nums.now) i (e - i))) (tape out.new result) }
+    ensures wrote { Wrote (tape_of tape.old) (run_text owing (run (node_at table.now.ops.now table.now.nums.now) i (e - i))) (tape_of tape.new) }
+    ensures same { SameOut tape.old tape.new }
 {
-    let mut place = at;
     for j in i..e {
-        place = put_word(out, place, table.ops[j], table.nums[j], owing);
+        put_word(tape, table.ops[j], table.nums[j], owing);
     }
-    place
 }
 
 // The text of the pure formula at i, as an operand or as a signal.
-fn put_formula(out: &mut [u8], at: usize, table: &FormulaTable, i: usize, owing: bool) -> usize
+fn put_formula(tape: &mut Tape, table: &FormulaTable, i: usize, owing: bool)
     requires { Pure table.now.ops.now table.now.nums.now i }
-    ensures { Spelled table.now.ops.now table.now.nums.now i owing (tape out.old at) (tape out.new result) }
+    ensures wrote { Spelled table.now.ops.now table.now.nums.now i owing (tape_of tape.old) (tape_of tape.new) }
+    ensures same { SameOut tape.old tape.new }
 {
     if let Some(e) = table.boolean_over_atoms(i) {
-        return put_run(out, at, table, i, e, owing);
+        return put_run(tape, table, i, e, owing);
     }
-    at
 }
 
 // A signal's text: implies is `|!`.
-pub fn put_signal(out: &mut [u8], at: usize, table: &FormulaTable, i: usize) -> usize
+pub fn put_signal(tape: &mut Tape, table: &FormulaTable, i: usize)
     requires { Pure table.now.ops.now table.now.nums.now i }
-    ensures { Spelled table.now.ops.now table.now.nums.now i false (tape out.old at) (tape out.new result) }
+    ensures wrote { Spelled table.now.ops.now table.now.nums.now i false (tape_of tape.old) (tape_of tape.new) }
+    ensures same { SameOut tape.old tape.new }
 {
-    put_formula(out, at, table, i, false)
+    put_formula(tape, table, i, false);
 }
 
 // An operand's text: implies is `>`.
-pub fn put_operand(out: &mut [u8], at: usize, table: &FormulaTable, i: usize) -> usize
+pub fn put_operand(tape: &mut Tape, table: &FormulaTable, i: usize)
     requires { Pure table.now.ops.now table.now.nums.now i }
-    ensures { Spelled table.now.ops.now table.now.nums.now i true (tape out.old at) (tape out.new result) }
+    ensures wrote { Spelled table.now.ops.now table.now.nums.now i true (tape_of tape.old) (tape_of tape.new) }
+    ensures same { SameOut tape.old tape.new }
 {
-    put_formula(out, at, table, i, true)
+    put_formula(tape, table, i, true);
 }

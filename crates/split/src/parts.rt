@@ -3,7 +3,7 @@ ghost use Rattle.std.specs.Prelude.{◌≡◌, [], ◌∷◌, ◌+◌, ◌*◌, 
 ghost use Rattle.std.proofs.lemmas.List.Edits.{sets};
 ghost use Rattle.split.specs.Held.{outcome, splitting, Purity, Ends, SplitReady, Decomposed};
 
-use formula::table::FormulaTable;
+use formula::table::{FormulaTable, Span};
 use liveness::walk::{contains_liveness, judge_top};
 use result::Refusal;
 use terms::entry;
@@ -55,6 +55,7 @@ fn decompose_top(
 {
     let op = table.ops[i];
     if op < NOT {
+        // `as`: the number fits, and a `TryFrom` would have an error that cannot be
         put(skeleton, k, [entry::SAFETY, i as u64]);
         return Filled {
             end: i + 1,
@@ -92,17 +93,16 @@ fn decompose_top(
     }
 }
 
-// The liveness split of the rule of `count` nodes at `first`, if one is asked for.
+// The liveness split of the rule whose formula stands there, if one is asked for: an assumption has none.
 #[tactic(auto, unfolding(crate::specs::Held::splitting))]
 pub fn split(
     table: &FormulaTable,
-    first: usize,
-    count: usize,
+    span: Span,
     assumed: bool,
     skeleton: &mut [u64],
     owed: &mut [u64],
 ) -> Result<Option<Parts>, Refusal>
-    ensures { outcome result skeleton.new owed.new ≡ splitting table.now.ops.now table.now.nums.now first count assumed
+    ensures { outcome result skeleton.new owed.new ≡ splitting table.now.ops.now table.now.nums.now span.first span.count assumed
         skeleton.old owed.old }
 {
     if !table.is_roomy() {
@@ -114,18 +114,18 @@ pub fn split(
     if owed.len() < OWED_ROOM {
         return Err(Refusal::Short);
     }
-    if !table.is_rule(first, count) {
+    if !table.is_rule(span) {
         return Err(Refusal::Unfit);
     }
     if assumed {
         return Ok(None);
     }
-    let lives = contains_liveness(table, first);
+    let lives = contains_liveness(table, span.first);
     if !lives {
         return Ok(None);
     }
-    judge_top(table, first)?;
-    let filled = decompose_top(table, first, skeleton, 0, owed, 0);
+    judge_top(table, span.first)?;
+    let filled = decompose_top(table, span.first, skeleton, 0, owed, 0);
     Ok(Some(Parts {
         skeleton: filled.entries,
         owed: filled.owed,

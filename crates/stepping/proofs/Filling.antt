@@ -9,15 +9,15 @@ use native.Mathlib.Nat.{add-zero, add-suc, suc-add, zero-add}
 use native.Mathlib.Numerals.{add-one}
 use lib.ListN.{length, get_or, set, replicate, length-replicate}
 use lib.Seq.{sets}
-use Rattle.formula.specs.Table.{is_some}
 use Rattle.monitor.specs.Mon.{Mon}
-use Rattle.std.specs.Prelude.{Result, Ok, Err}
+use Rattle.std.specs.Prelude.{Result, Ok, Err, None, Some}
 use Rattle.result.specs.declared.Refusal.{Refusal}
-use Rattle.result.specs.declared.Refusal.TheVariants.{Short, Unfit}
+use Rattle.result.specs.declared.Refusal.TheVariants.{Short}
 use Rattle.node_step.specs.Memory.{Memory}
-use Rattle.lent.specs.Lent.{LentTables, lent_of, rule_mon}
+use Rattle.terms.specs.Choice.{pick}
+use Rattle.lent.specs.Lent.{LentTables, lent_of, rule_mon, ruleless, refusal_to_make}
 use Rattle.stepping.specs.Fresh.{column, Makes, Making, refuse, make_mon, or_short, fresh_call, FreshAnswers}
-use Rattle.lent.proofs.Refusals.{no_rule, some_rule}
+use Rattle.lent.proofs.Refusals.{admitted}
 
 sets_append : {A : Type 0} (l : List A) (i : ℕ) (xs ys : List A) → sets (sets l i xs) (i + length xs) ys ≡ sets l i (xs ++ ys)
 sets_append l i [] ys = ap (λ (n : ℕ). sets l n ys) (add-zero i)
@@ -75,7 +75,7 @@ module _ (nodes : List ℕ) (col nfirst : ℕ) (out₀ : List ℕ) where
   column_next out k d = stored_more (column nodes col nfirst) out₀ out k (get_or nodes (7 * (nfirst + k) + col) 0) (column_length nodes col nfirst k) (column_more nodes col nfirst k) d
 
 -- ---- the whole monitor
-module _ (t : LentTables) (forms bounds : List ℕ) (mem : Memory) (b : Bool) (e : b ≡ lent_of t.ops t.nums t.nodes forms bounds mem) where
+module _ (t : LentTables) (forms bounds : List ℕ) (mem : Memory) where
   answered : (r : Result ℕ Refusal) (c : Making) → r ≡ c.answer → fresh_call t forms bounds mem ≡ c → FreshAnswers t forms bounds mem r c.forms c.bounds c.memory
   answered r c a s = record {
     answers = a ∙ sym (ap (λ (x : Making). x.answer) s);
@@ -84,22 +84,22 @@ module _ (t : LentTables) (forms bounds : List ℕ) (mem : Memory) (b : Bool) (e
     memory_is = sym (ap (λ (x : Making). x.memory) s);
   }
 
-  pub made_short : b ≡ false → FreshAnswers t forms bounds mem (Err Short) forms bounds mem
+  pub made_refused : (r : Refusal) → refusal_to_make t forms bounds mem ≡ Some r → FreshAnswers t forms bounds mem (Err r) forms bounds mem
+  unfolding fresh_call refusal_to_make
+  made_refused r e = answered (Err r) (refuse r forms bounds mem) refl (go (lent_of t.ops t.nums t.nodes forms bounds mem) (rule_mon t) e)
+    where
+      same : {a b : Refusal} → Some a ≡ Some b → a ≡ b
+      same q = cc
+
+      go : (b : Bool) (o : Option Mon) → pick b (ruleless o) (Some Short) ≡ Some r → or_short b forms bounds mem (make_mon o t forms bounds mem) ≡ refuse r forms bounds mem
+      go true none h = ap (λ (x : Refusal). refuse x forms bounds mem) (same h)
+      go true (some m) h = cc
+      go false o h = ap (λ (x : Refusal). refuse x forms bounds mem) (same h)
+
+  pub made_all : (forms' bounds' : List ℕ) (mem' : Memory) → refusal_to_make t forms bounds mem ≡ None → Makes t.nodes t.nfirst t.ncount forms bounds mem forms' bounds' mem'
+      → FreshAnswers t forms bounds mem (Ok t.ncount) forms' bounds' mem'
   unfolding fresh_call
-  made_short q =
-      answered (Err Short) (refuse Short forms bounds mem) refl (ap (λ (x : Bool). or_short x forms bounds mem (make_mon (rule_mon t) t forms bounds mem)) (sym e ∙ q))
-
-  module _ (q : b ≡ true) (c : Bool) (p : c ≡ is_some (rule_mon t)) where
-    goes : (o : Option Mon) → rule_mon t ≡ o → fresh_call t forms bounds mem ≡ make_mon o t forms bounds mem
-    unfolding fresh_call
-    goes o r = ap₂ (λ (x : Bool) (y : Option Mon). or_short x forms bounds mem (make_mon y t forms bounds mem)) (sym e ∙ q) r
-
-    pub made_none : c ≡ false → FreshAnswers t forms bounds mem (Err Unfit) forms bounds mem
-    made_none z = answered (Err Unfit) (refuse Unfit forms bounds mem) refl (goes none (no_rule (rule_mon t) (sym p ∙ z)))
-
-    pub made_all : (forms' bounds' : List ℕ) (mem' : Memory) → c ≡ true → Makes t.nodes t.nfirst t.ncount forms bounds mem forms' bounds' mem'
-        → FreshAnswers t forms bounds mem (Ok t.ncount) forms' bounds' mem'
-    made_all forms' bounds' mem' z a =
-        let (m, r) = some_rule (rule_mon t) (sym p ∙ z) in
-        let x = answered (Ok t.ncount) (make_mon (some m) t forms bounds mem) refl (goes (some m) r) in
-        record { answers = x.answers; forms_are = a.forms_are ∙ x.forms_are; bounds_are = a.bounds_are ∙ x.bounds_are; memory_is = a.memory_is ∙ x.memory_is }
+  made_all forms' bounds' mem' e a =
+      let d = admitted t forms bounds mem e in
+      let x = answered (Ok t.ncount) (make_mon (some d.mon) t forms bounds mem) refl (ap₂ (λ (x : Bool) (y : Option Mon). or_short x forms bounds mem (make_mon y t forms bounds mem)) d.room d.rule) in
+      record { answers = x.answers; forms_are = a.forms_are ∙ x.forms_are; bounds_are = a.bounds_are ∙ x.bounds_are; memory_is = a.memory_is ∙ x.memory_is }

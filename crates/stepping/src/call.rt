@@ -7,7 +7,7 @@ ghost use Rattle.stepping.specs.Call.{Answers, Fit, accept_of, step_call};
 
 use crate::walk::step_node;
 use lent::Frame;
-use lent::refusal::refusal_of;
+use lent::refusal::admit_monitor;
 use monitor::table::{Part, Tables};
 use node_step::state::Memory;
 use result::Refusal;
@@ -32,7 +32,7 @@ pub fn step_fit(
 }
 
 // Steps a lent monitor once, at step s with truths w, over the tables that hold its rule:
-// whether the rule is newly broken by it, or the refusal.
+// whether the rule is newly broken by it, or the refusal. The step and its truths stand apart, as in document 01's call.
 pub fn step(
     tables: &Tables,
     part: Part,
@@ -44,9 +44,7 @@ pub fn step(
     ensures stepped { Answers (step_call (tables_of tables.now part) (lent_monitor frame.now (memory_of memory.old)) s w) result (memory_of memory.new) }
     ensures same { SameLists memory.old memory.new }
 {
-    if let Some(refusal) = refusal_of(tables, part, frame, &memory.entries()) {
-        return Err(refusal);
-    }
+    admit_monitor(tables, part, frame, &memory.entries())?;
     if STEPS <= s {
         return Err(Refusal::Late);
     }

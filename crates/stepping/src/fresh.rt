@@ -5,16 +5,16 @@ ghost use Rattle.terms.specs.Limits.{row_cells};
 ghost use Rattle.node_step.specs.Memory.{Inside};
 ghost use Rattle.node_step.specs.Lists.{memory_of, SameLists};
 ghost use Rattle.lent.specs.Lent.{Spanned};
-ghost use Rattle.lent.specs.Lists.{tables_of};
+ghost use Rattle.lent.specs.Lists.{tables_of, SameBlank};
 ghost use Rattle.stepping.specs.Fresh.{column, cleared, Makes, FreshAnswers};
 
-use lent::room::is_lent;
+use lent::Blank;
+use monitor::node::Rows;
 use monitor::table::{Part, Tables};
 use node_step::state::Memory;
 use result::Refusal;
-use terms::limit::ROW_CELLS;
 
-// Sets the first n elements.
+// Sets the first n elements. Not a slice's `fill`: its proof asks that T's clone cannot fail, which `Copy` alone does not tell.
 fn fill_first<T: Copy>(xs: &mut [T], n: usize, x: T)
     requires { n ≤ length xs.old }
     ensures { xs.new ≡ sets xs.old 0 (replicate n x) }
@@ -36,62 +36,44 @@ fn clear(memory: &mut Memory, n: usize)
     fill_first(memory.culprits, n, -1);
 }
 
-// A column of the node table, from row `nfirst` on.
-pub fn copy_column(nodes: &[u64], col: usize, nfirst: usize, out: &mut [u64], n: usize)
-    requires { (row_cells * (nfirst + n) ≤ length nodes.now) × (col < row_cells) × (n ≤ length out.old) }
-    ensures { out.new ≡ sets out.old 0 (column nodes.now col nfirst n) }
+// A column of the rows.
+pub fn copy_column(rows: &Rows, col: usize, out: &mut [u64])
+    requires { (row_cells * (rows.now.first + rows.now.count) ≤ length rows.now.nodes.now) × (col < row_cells) × (rows.now.count ≤ length out.old) }
+    ensures { out.new ≡ sets out.old 0 (column rows.now.nodes.now col rows.now.first rows.now.count) }
 {
-    for k in 0..n {
-        out[k] = nodes[ROW_CELLS * (nfirst + k) + col];
+    for k in 0..rows.count {
+        out[k] = rows.cell(k, col);
     }
 }
 
 // The monitor's own forms, bounds and entries.
-fn make(
-    nodes: &[u64],
-    nfirst: usize,
-    ncount: usize,
-    forms: &mut [u64],
-    bounds: &mut [u64],
-    memory: &mut Memory,
-)
-    requires { Spanned nodes.now nfirst forms.old bounds.old (memory_of memory.old) ncount }
-    ensures made { Makes nodes.now nfirst ncount
-        forms.old bounds.old (memory_of memory.old)
-        forms.new bounds.new (memory_of memory.new) }
+fn make(rows: &Rows, blank: &mut Blank, memory: &mut Memory)
+    requires { Spanned rows.now.nodes.now rows.now.first blank.old.forms.now blank.old.bounds.now (memory_of memory.old) rows.now.count }
+    ensures made { Makes rows.now.nodes.now rows.now.first rows.now.count
+        blank.old.forms.now blank.old.bounds.now (memory_of memory.old)
+        blank.new.forms.now blank.new.bounds.now (memory_of memory.new) }
     ensures same { SameLists memory.old memory.new }
+    ensures lists { SameBlank blank.old blank.new }
 {
-    copy_column(nodes, 0, nfirst, forms, ncount);
-    copy_column(nodes, 1, nfirst, bounds, ncount);
-    clear(memory, ncount);
+    copy_column(rows, 0, blank.forms);
+    copy_column(rows, 1, blank.bounds);
+    clear(memory, rows.count);
 }
 
 // Makes the monitor of the compiled rule that the tables hold: the count of its nodes, or the refusal.
 pub fn fresh(
     tables: &Tables,
     part: Part,
-    forms: &mut [u64],
-    bounds: &mut [u64],
+    blank: &mut Blank,
     memory: &mut Memory,
 ) -> Result<usize, Refusal>
     ensures made { FreshAnswers (tables_of tables.now part)
-        forms.old bounds.old (memory_of memory.old) result
-        forms.new bounds.new (memory_of memory.new) }
+        blank.old.forms.now blank.old.bounds.now (memory_of memory.old) result
+        blank.new.forms.now blank.new.bounds.now (memory_of memory.new) }
     ensures same { SameLists memory.old memory.new }
+    ensures lists { SameBlank blank.old blank.new }
 {
-    if !is_lent(tables, forms, bounds, &memory.entries()) {
-        return Err(Refusal::Short);
-    }
-    if !tables.is_compiled(part) {
-        return Err(Refusal::Unfit);
-    }
-    make(
-        tables.nodes,
-        part.nfirst,
-        part.ncount,
-        forms,
-        bounds,
-        memory,
-    );
+    blank.admit(tables, part, &memory.entries())?;
+    make(&tables.rows(part), blank, memory);
     Ok(part.ncount)
 }

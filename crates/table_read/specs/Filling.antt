@@ -3,7 +3,7 @@
 --     Fills       for any formula table of so many nodes: the answer is that of reading into it, and the columns hold the nodes that then
 --                 stand in front, or every node stays
 use Rattle.std.specs.Prelude.{List, ◌≡◌, ℕ, ◌≤◌, length, Result, Ok, Err}
-use Rattle.node_table.specs.Columns.{Inside, front}
+use Rattle.node_table.specs.Columns.{front}
 use Rattle.reader.specs.Answer.{Reads}
 use Rattle.reader.specs.BookTables.{BookTables, SlotTables}
 use Rattle.book.specs.declared.check.Refused.{Refused}
@@ -16,9 +16,6 @@ pub record RuleList : Type 0 where
   pub firsts : List ℕ
   pub counts : List ℕ
 
-abbrev pub rules_in : List ℕ → List ℕ → List ℕ → List ℕ → List ℕ → RuleList
-rules_in labels lens kinds firsts counts = record { labels = labels; lens = lens; kinds = kinds; firsts = firsts; counts = counts }
-
 abbrev pub with_table : RuleList → List ℕ → List ℕ → BookTables
 with_table l ops nums = record { labels = l.labels; lens = l.lens; kinds = l.kinds; firsts = l.firsts; counts = l.counts; ops = ops; nums = nums }
 
@@ -28,7 +25,6 @@ pub record FillsWith (len : ℕ) (text : List ℕ) (l : RuleList) (u : SlotTable
       → length ops ≡ len
       → length nums ≡ len
       → Reads text (with_table l ops nums) u (Ok f.read) (with_table l' (front f.columns.count f.columns.ops ops) (front f.columns.count f.columns.nums nums)) u'
-  pub inside : Inside f.columns
   pub fits : f.columns.count ≤ len
 
 -- a book that was refused: every node stays

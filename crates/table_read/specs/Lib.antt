@@ -1,2 +1,3 @@
 -- Reading a book into a table of node structs.
 pub mod Filling
+pub mod Lists

@@ -4,15 +4,26 @@
 
 ghost use Rattle.node_table.specs.Node.{ops_of, nums_of};
 ghost use Rattle.reader.specs.Answer.{Reads};
-ghost use Rattle.table_read.specs.Filling.{Fills, rules_in};
-ghost use Rattle.reader.specs.BookTables.{columns, slot_columns};
+ghost use Rattle.reader.specs.Lists.{slots_in, SameSlots};
+ghost use Rattle.table_read.specs.Filling.{Fills, with_table};
+ghost use Rattle.table_read.specs.Lists.{rules_in, SameRules};
 
-use book::check::Refused;
+use book::check::{Read, Refused};
 use node_table::{Columns, FormulaNode, pack};
-use reader::read::{Read, read_book};
+use reader::read::read_book;
 use reader::tables::{BookTables, SlotTables};
 use result::Refusal;
 use terms::limit::BOOK_NODES;
+
+// The lent rule list, a place for each rule.
+#[derive(Drop)]
+pub struct RuleTables<'a> {
+    pub labels: &'a mut [u8],
+    pub lens: &'a mut [usize],
+    pub kinds: &'a mut [u8],
+    pub firsts: &'a mut [usize],
+    pub counts: &'a mut [usize],
+}
 
 // What was read, and the book's nodes in columns.
 #[derive(Drop)]
@@ -25,20 +36,12 @@ pub struct Filling {
 fn read_columns(
     len: usize,
     text: &[u8],
-    labels: &mut [u8],
-    lens: &mut [usize],
-    kinds: &mut [u8],
-    firsts: &mut [usize],
-    counts: &mut [usize],
-    names: &mut [u8],
-    sizes: &mut [usize],
-    widths: &mut [u64],
+    rules: &mut RuleTables,
+    slots: &mut SlotTables,
 ) -> Result<Filling, Refused>
-    ensures { Fills len text.now
-        (rules_in labels.old lens.old kinds.old firsts.old counts.old)
-        (slot_columns names.old sizes.old widths.old) result
-        (rules_in labels.new lens.new kinds.new firsts.new counts.new)
-        (slot_columns names.new sizes.new widths.new) }
+    ensures fills { Fills len text.now (rules_in rules.old) (slots_in slots.old) result (rules_in rules.new) (slots_in slots.new) }
+    ensures same_rules { SameRules rules.old rules.new }
+    ensures same_slots { SameSlots slots.old slots.new }
 {
     if len < BOOK_NODES {
         return Err(Refused {
@@ -49,20 +52,15 @@ fn read_columns(
     let mut ops = [0u8; BOOK_NODES];
     let mut nums = [0u64; BOOK_NODES];
     let mut tables = BookTables {
-        labels,
-        lens,
-        kinds,
-        firsts,
-        counts,
+        labels: rules.labels,
+        lens: rules.lens,
+        kinds: rules.kinds,
+        firsts: rules.firsts,
+        counts: rules.counts,
         ops: &mut ops,
         nums: &mut nums,
     };
-    let mut slots = SlotTables {
-        names,
-        lens: sizes,
-        widths,
-    };
-    let read = read_book(text, &mut tables, &mut slots)?;
+    let read = read_book(text, &mut tables, slots)?;
     let columns = Columns {
         count: read.nodes,
         ops,
@@ -74,34 +72,17 @@ fn read_columns(
 // Reads a book: its rules into the rule list, its nodes into the table's front, its slots into the slot list.
 pub fn read_table(
     text: &[u8],
-    labels: &mut [u8],
-    lens: &mut [usize],
-    kinds: &mut [u8],
-    firsts: &mut [usize],
-    counts: &mut [usize],
+    rules: &mut RuleTables,
     table: &mut [FormulaNode],
-    names: &mut [u8],
-    sizes: &mut [usize],
-    widths: &mut [u64],
+    slots: &mut SlotTables,
 ) -> Result<Read, Refused>
-    ensures { Reads text.now
-        (columns labels.old lens.old kinds.old firsts.old counts.old
-        (ops_of table.old) (nums_of table.old)) (slot_columns names.old sizes.old widths.old) result
-        (columns labels.new lens.new kinds.new firsts.new counts.new (ops_of table.new)
-        (nums_of table.new)) (slot_columns names.new sizes.new widths.new) }
+    ensures read { Reads text.now
+        (with_table (rules_in rules.old) (ops_of table.old) (nums_of table.old)) (slots_in slots.old) result
+        (with_table (rules_in rules.new) (ops_of table.new) (nums_of table.new)) (slots_in slots.new) }
+    ensures same_rules { SameRules rules.old rules.new }
+    ensures same_slots { SameSlots slots.old slots.new }
 {
-    let filling = read_columns(
-        table.len(),
-        text,
-        labels,
-        lens,
-        kinds,
-        firsts,
-        counts,
-        names,
-        sizes,
-        widths,
-    )?;
+    let filling = read_columns(table.len(), text, rules, slots)?;
     pack(table, filling.columns);
     Ok(filling.read)
 }

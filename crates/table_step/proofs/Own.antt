@@ -13,7 +13,7 @@ use Rattle.stepping.specs.Fresh.{fresh_call}
 use Rattle.in_place.specs.InPlace.{step_in, fresh_in}
 use Rattle.in_place.specs.declared.ReferenceMonitor.{ReferenceMonitor}
 use Rattle.node_table.specs.Columns.{Unpacked}
-use Rattle.node_table.specs.declared.Columns.{Columns}
+use Rattle.node_table.specs.declared.columns.Columns.{Columns}
 use Rattle.node_table.specs.declared.FormulaNode.{FormulaNode}
 use Rattle.node_table.proofs.Own.{own_room, own_rule}
 use Rattle.table_step.specs.Over.{tables_over}

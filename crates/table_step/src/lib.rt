@@ -4,7 +4,7 @@
 
 ghost use Rattle.std.specs.Prelude.{◌≡◌};
 ghost use Rattle.in_place.specs.InPlace.{fresh_in, step_in};
-ghost use Rattle.table_step.specs.Over.{tables_over};
+ghost use Rattle.table_step.specs.Over.{part_over};
 
 use in_place::ReferenceMonitor;
 use in_place::fresh::fresh;
@@ -22,10 +22,10 @@ pub fn step_table(
     s: u64,
     w: u64,
 ) -> Result<bool, Refusal>
-    ensures { (result ≡ (step_in (tables_over table.now part.first part.count nodes.now part.nfirst part.ncount) m.old s w).verdict)
-        × (m.new ≡ (step_in (tables_over table.now part.first part.count nodes.now part.nfirst part.ncount) m.old s w).monitor) }
+    ensures { (result ≡ (step_in (part_over table.now nodes.now part) m.old s w).verdict)
+        × (m.new ≡ (step_in (part_over table.now nodes.now part) m.old s w).monitor) }
 {
-    let c = unpack(table, part.first, part.count);
+    let c = unpack(table, part.formula());
     let tables = Tables::new(c.ops(), c.nums(), nodes);
     step(m, &tables, part, s, w)
 }
@@ -37,10 +37,10 @@ pub fn fresh_table(
     nodes: &[u64],
     part: Part,
 ) -> Result<usize, Refusal>
-    ensures { (result ≡ (fresh_in (tables_over table.now part.first part.count nodes.now part.nfirst part.ncount) m.old).outcome)
-        × (m.new ≡ (fresh_in (tables_over table.now part.first part.count nodes.now part.nfirst part.ncount) m.old).monitor) }
+    ensures { (result ≡ (fresh_in (part_over table.now nodes.now part) m.old).outcome)
+        × (m.new ≡ (fresh_in (part_over table.now nodes.now part) m.old).monitor) }
 {
-    let c = unpack(table, part.first, part.count);
+    let c = unpack(table, part.formula());
     let tables = Tables::new(c.ops(), c.nums(), nodes);
     fresh(m, &tables, part)
 }

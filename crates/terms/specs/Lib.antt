@@ -6,3 +6,4 @@ pub mod Words
 pub mod Forms
 pub mod Kinds
 pub mod Entries
+pub mod Lent

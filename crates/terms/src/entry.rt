@@ -1,4 +1,5 @@
 // The kinds of a skeleton's entries (specs/Entries.antt): a safety leaf, an obligation, and from `WORD` on the words by their numbers.
+// Numbers, as document 01's lists are plain numbers.
 pub const SAFETY: u64 = 0;
 
 pub const OWED: u64 = 1;

@@ -1,4 +1,4 @@
-// The numbers of the forms in the rows of a compiled rule (specs/Forms.antt).
+// The numbers of the forms in the rows of a compiled rule (specs/Forms.antt), which C lends as plain numbers.
 pub const RANGE: u64 = 0;
 
 pub const DELAYED: u64 = 1;

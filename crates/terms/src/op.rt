@@ -1,4 +1,5 @@
-// The numbers of the words in a formula table (specs/Ops.antt): atoms, words of one operand, words of two.
+// The numbers of the words in a formula table (specs/Ops.antt): atoms, words of one operand, words of two. Numbers, as document 01's tables are
+// plain numbers, which C lends; walks tell them apart by order.
 pub const VAR: u8 = 0;
 
 pub const IN: u8 = 1;

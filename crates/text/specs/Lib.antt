@@ -1,2 +1,3 @@
 -- What writing text into lent memory leaves.
 pub mod Tape
+pub mod Lent

@@ -1,63 +1,74 @@
-// Bytes and numbers, each written at a place of a lent slice. The answer is the place behind them.
+// Bytes and numbers, written one behind another.
 ghost use Rattle.std.specs.Prelude.{[], ◌∷◌};
 ghost use Rattle.number.specs.Digits.{decimal};
 ghost use Rattle.words.specs.Word.{spelling_of};
-ghost use Rattle.text.specs.Tape.{tape, Wrote, signed, Culprit};
+ghost use Rattle.text.specs.Tape.{Wrote, signed, Culprit};
+ghost use Rattle.text.specs.Lent.{tape_of, SameOut};
 
 use letters::{length, letter};
 
-// One byte.
-pub fn put_byte(out: &mut [u8], at: usize, b: u8) -> usize
-    ensures { Wrote (tape out.old at) (b ∷ []) (tape out.new result) }
-{
-    if at < out.len() {
-        out[at] = b;
-        return at + 1;
-    }
-    at
+// Lent memory and the place in it where the next byte goes. No `fmt::Write`: a byte without room is left out, which is no error.
+#[derive(Drop)]
+pub struct Tape<'a> {
+    pub out: &'a mut [u8],
+    pub at: usize,
 }
 
-// The bytes of a slice.
-pub fn put_bytes(out: &mut [u8], at: usize, s: &[u8]) -> usize
-    ensures { Wrote (tape out.old at) s.now (tape out.new result) }
-{
-    let mut place = at;
-    for b in s {
-        place = put_byte(out, place, *b);
+impl Tape<'_> {
+    // One byte.
+    pub fn put_byte(&mut self, b: u8)
+        ensures wrote { Wrote (tape_of self.old) (b ∷ []) (tape_of self.new) }
+        ensures same { SameOut self.old self.new }
+    {
+        if self.at < self.out.len() {
+            self.out[self.at] = b;
+            self.at += 1;
+        }
     }
-    place
-}
 
-// The letters of a line word, by its number.
-pub fn put_word(out: &mut [u8], at: usize, k: u8) -> usize
-    ensures { Wrote (tape out.old at) (spelling_of k) (tape out.new result) }
-{
-    let n = length(k);
-    let mut place = at;
-    for i in 0..n {
-        place = put_byte(out, place, letter(k, i));
+    // The bytes of a slice.
+    pub fn put_bytes(&mut self, s: &[u8])
+        ensures wrote { Wrote (tape_of self.old) s.now (tape_of self.new) }
+        ensures same { SameOut self.old self.new }
+    {
+        for b in s {
+            self.put_byte(*b);
+        }
     }
-    place
-}
 
-// A number in decimal.
-pub fn put_decimal(out: &mut [u8], at: usize, n: u64) -> usize
-    ensures { Wrote (tape out.old at) (decimal n) (tape out.new result) }
-{
-    if n < 10 {
-        return put_byte(out, at, (48 + n) as u8);
+    // The letters of a line word, by its number.
+    pub fn put_word(&mut self, k: u8)
+        ensures wrote { Wrote (tape_of self.old) (spelling_of k) (tape_of self.new) }
+        ensures same { SameOut self.old self.new }
+    {
+        let n = length(k);
+        for i in 0..n {
+            self.put_byte(letter(k, i));
+        }
     }
-    let place = put_decimal(out, at, n / 10);
-    put_byte(out, place, (48 + n % 10) as u8)
-}
 
-// A culprit: minus 1, or a step.
-pub fn put_signed(out: &mut [u8], at: usize, z: i64) -> usize
-    requires { Culprit z }
-    ensures { Wrote (tape out.old at) (signed z) (tape out.new result) }
-{
-    if z < 0 {
-        return put_bytes(out, at, b"-1");
+    // A number in decimal.
+    pub fn put_decimal(&mut self, n: u64)
+        ensures wrote { Wrote (tape_of self.old) (decimal n) (tape_of self.new) }
+        ensures same { SameOut self.old self.new }
+    {
+        if n < 10 {
+            // `as`: the number fits, and a `TryFrom` would have an error that cannot be
+            return self.put_byte((48 + n) as u8);
+        }
+        self.put_decimal(n / 10);
+        self.put_byte((48 + n % 10) as u8);
     }
-    put_decimal(out, at, z as u64)
+
+    // A culprit: minus 1, or a step.
+    pub fn put_signed(&mut self, z: i64)
+        requires { Culprit z }
+        ensures wrote { Wrote (tape_of self.old) (signed z) (tape_of self.new) }
+        ensures same { SameOut self.old self.new }
+    {
+        if z < 0 {
+            return self.put_bytes(b"-1");
+        }
+        self.put_decimal(z as u64);
+    }
 }

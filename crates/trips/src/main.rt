@@ -5,7 +5,7 @@
 use compiler::compile_formula;
 use input::{TEXT_ROOM, read_full};
 use layout::rule::{layout_for, node_slot};
-use lent::Frame;
+use lent::{Blank, Frame};
 use monitor::table::{Part, Tables};
 use node_step::state::Memory;
 use opened::{Book, open_book};
@@ -66,13 +66,11 @@ impl Rule<'_> {
             failed: &mut failed,
             culprits: &mut culprits,
         };
-        let made = fresh(
-            &self.tables,
-            self.part,
-            &mut forms,
-            &mut bounds,
-            &mut memory,
-        );
+        let mut blank = Blank {
+            forms: &mut forms,
+            bounds: &mut bounds,
+        };
+        let made = fresh(&self.tables, self.part, &mut blank, &mut memory);
         let size = match made {
             Ok(size) => size,
             Err(refusal) => return print!(rt; ", monitor {refusal}"),
@@ -121,6 +119,7 @@ impl Rule<'_> {
 
 // The atom at a place: its letter and its signal.
 fn show_atom(rt: &impl Print, book: &Book, p: u64) -> io::Result<()> {
+    // `as`: the number fits, and a `TryFrom` would have an error that cannot be
     let i = p as usize;
     if BOOK_NODES <= i {
         return Ok(());
@@ -155,8 +154,7 @@ fn show_live(rt: &impl Print, book: &Book) -> io::Result<()> {
     let mut owed = [0u64; OWED_ROOM];
     let answer = split(
         &book.formulas(),
-        book.firsts[0],
-        book.counts[0],
+        book.formula(0),
         false,
         &mut skeleton,
         &mut owed,
@@ -176,17 +174,16 @@ fn show_live(rt: &impl Print, book: &Book) -> io::Result<()> {
 
 // The first rule of a book, over its steps.
 fn run_rule(rt: &impl Print, text: &[u8], book: &Book) -> io::Result<()> {
-    let first = book.firsts[0];
-    let count = book.counts[0];
+    let span = book.formula(0);
     let mut nodes = [0u64; NODE_CELLS];
-    match compile_formula(&book.formulas(), first, count, &mut nodes) {
+    match compile_formula(&book.formulas(), span, &mut nodes) {
         Err(refusal) => print!(rt; ": compile {}", u64::from(refusal))?,
         Ok(ncount) => {
             let rule = Rule {
                 tables: Tables::new(&book.ops, &book.nums, &nodes),
                 part: Part {
-                    first,
-                    count,
+                    first: span.first,
+                    count: span.count,
                     nfirst: 0,
                     ncount,
                 },

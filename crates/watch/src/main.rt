@@ -6,13 +6,16 @@
 mod rule;
 
 use crate::rule::{Report, watch_rule};
+use formula::table::Span;
 use input::{TEXT_ROOM, read_full};
 use lending::split_over;
 use lending_read::read_over;
 use node_table::FormulaNode;
+use reader::tables::SlotTables;
 use result::Refusal;
 use split::parts::Parts;
 use std::io;
+use table_read::RuleTables;
 use terms::kind::Kind;
 use terms::limit::{
     BOOK_NODES, BOOK_RULES, BOOK_SLOTS, LABELS_ROOM, NAMES_ROOM, OWED_ROOM, SKELETON_ROOM,
@@ -44,18 +47,19 @@ fn watch_book(rt: &impl Print, text: &[u8]) -> io::Result<()> {
     let mut sizes = [0usize; BOOK_SLOTS];
     let mut widths = [0u64; BOOK_SLOTS];
     let blank = [FormulaNode { op: 0, num: 0 }; BOOK_NODES];
-    let read = read_over(
-        text,
-        &mut labels,
-        &mut lens,
-        &mut kinds,
-        &mut firsts,
-        &mut counts,
-        blank,
-        &mut names,
-        &mut sizes,
-        &mut widths,
-    );
+    let mut rules = RuleTables {
+        labels: &mut labels,
+        lens: &mut lens,
+        kinds: &mut kinds,
+        firsts: &mut firsts,
+        counts: &mut counts,
+    };
+    let mut slots = SlotTables {
+        names: &mut names,
+        lens: &mut sizes,
+        widths: &mut widths,
+    };
+    let read = read_over(text, &mut rules, blank, &mut slots);
     let table = read.table;
     match read.answer {
         Err(refused) => println!(rt; "book {} line {}", refused.refusal, refused.line),
@@ -63,17 +67,21 @@ fn watch_book(rt: &impl Print, text: &[u8]) -> io::Result<()> {
             if book.rules == 0 {
                 return println!(rt; "nothing to watch");
             }
-            show_watched(
-                rt,
-                watch_rule(text, book.steps_at, table, firsts[0], counts[0]),
-            )?;
+            let span = Span {
+                first: firsts[0],
+                count: counts[0],
+            };
+            show_watched(rt, watch_rule(text, book.steps_at, table, span))?;
             for r in 0..book.rules.min(BOOK_RULES) {
+                let span = Span {
+                    first: firsts[r],
+                    count: counts[r],
+                };
                 let mut skeleton = [0u64; SKELETON_ROOM];
                 let mut owed = [0u64; OWED_ROOM];
                 let answer = split_over(
                     table,
-                    firsts[r],
-                    counts[r],
+                    span,
                     kinds[r] == u8::from(Kind::Assumption),
                     &mut skeleton,
                     &mut owed,

@@ -3,9 +3,10 @@ ghost use Rattle.std.specs.Prelude.{◌≡◌};
 ghost use Rattle.node_table.specs.Node.{ops_of, nums_of};
 ghost use Rattle.reader.specs.Steps.{steps_from};
 ghost use Rattle.result.specs.Refusal.{told};
-ghost use Rattle.table_step.specs.Over.{tables_over};
+ghost use Rattle.table_step.specs.Over.{part_over};
 ghost use Rattle.watch.specs.Watch.{report_of, watched, blank_monitor, compiled_watched, rule_watched};
 
+use formula::table::Span;
 use in_place::ReferenceMonitor;
 use lending::{compile_over, fresh_over, step_over};
 use monitor::table::Part;
@@ -47,10 +48,11 @@ fn watch_steps(
     nodes: &[u64],
     part: Part,
 ) -> Result<Option<Report>, Refusal>
-    ensures { told result ≡ watched (tables_over table part.first part.count nodes.now part.nfirst part.ncount) m (steps_from text.now from) }
+    ensures { told result ≡ watched (part_over table nodes.now part) m (steps_from text.now from) }
 {
     let mut k = m;
     let mut at = from;
+    // the call hands out a line and the place of the next, as C takes them
     while let Some(line) = next_step(text, at) {
         let a = step_over(k, table, nodes, part, line.step, line.truths);
         k = a.monitor;
@@ -85,28 +87,27 @@ fn watch_compiled(
     nodes: &[u64],
     part: Part,
 ) -> Result<Option<Report>, Refusal>
-    ensures { told result ≡ compiled_watched (tables_over table part.first part.count nodes.now part.nfirst part.ncount) (steps_from text.now from) }
+    ensures { told result ≡ compiled_watched (part_over table nodes.now part) (steps_from text.now from) }
 {
     let started = fresh_over(blank_monitor(), table, nodes, part);
     started.outcome?;
     watch_steps(started.monitor, text, from, table, nodes, part)
 }
 
-// Watches the rule of `count` nodes at `first`.
+// Watches a rule.
 pub fn watch_rule(
     text: &[u8],
     from: usize,
     table: [FormulaNode; BOOK_NODES],
-    first: usize,
-    count: usize,
+    span: Span,
 ) -> Result<Option<Report>, Refusal>
-    ensures { told result ≡ rule_watched text.now from (ops_of table) (nums_of table) first count }
+    ensures { told result ≡ rule_watched text.now from (ops_of table) (nums_of table) span.first span.count }
 {
     let mut nodes = [0u64; NODE_CELLS];
-    let n = compile_over(table, first, count, &mut nodes)?;
+    let n = compile_over(table, span, &mut nodes)?;
     let part = Part {
-        first,
-        count,
+        first: span.first,
+        count: span.count,
         nfirst: 0,
         ncount: n,
     };

@@ -2,8 +2,8 @@ use Rattle.compiler.proofs.Compiling.{ready_room, place_fits, atom_laid}
 use borrow.Author.Rules.{rules}
 use Rattle.compiler.proofs.compile_atom.Goals as goal
 
-pub lay-requires : goal.lay-requires
-lay-requires c = search (rules, ready_room, place_fits)
+pub put-requires : goal.put-requires
+put-requires c = search (rules, ready_room, place_fits)
 
 pub returns : goal.returns
 returns c = search (rules, atom_laid)

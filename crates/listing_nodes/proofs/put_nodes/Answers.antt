@@ -1,6 +1,5 @@
 use native.Mathlib.Omega.{arith}
 use Rattle.listing_nodes.proofs.Cells.{noded_first, noded_next, noded_unknown, noded_all, row_inside, noded_ready}
-use mathlib.Core.Path.{◌∙◌}
 use borrow.Author.Rules.{rules}
 use Rattle.listing_nodes.proofs.put_nodes.Goals as goal
 
@@ -18,12 +17,11 @@ row_at-requires c = search (rules, row_inside)
 pub returns-in_default : goal.returns-in_default
 returns-in_default c = search (rules, noded_unknown)
 
-pub put_node-place-requires : goal.put_node-place-requires
-put_node-place-requires c = search (rules, noded_ready)
+pub put_node-requires : goal.put_node-requires
+put_node-requires c = search (rules, noded_ready)
 
 pub loop-k-preserved : goal.loop-k-preserved
-loop-k-preserved c =
-    (search (rules, noded_next), c.put_node-place.auto.out ∙ c.loop-k.invariant.1)
+loop-k-preserved c = search (rules, noded_next)
 
 pub returns : goal.returns
 returns c = search (rules, noded_all)

@@ -9,8 +9,8 @@ loop-line-init c = search (rules, ran_first)
 pub returns : goal.returns
 returns c = search (rules, ran_end)
 
-pub step_rules-p-requires : goal.step_rules-p-requires
-step_rules-p-requires c = search (rules, ran_due)
+pub step_rules-total-requires : goal.step_rules-total-requires
+step_rules-total-requires c = search (rules, ran_due)
 
 pub loop-line-smaller : goal.loop-line-smaller
 loop-line-smaller c = search (rules, fewer)

@@ -13,10 +13,10 @@ pub offset_bounds-memory-k : goal.offset_bounds-memory-k
 offset_bounds-memory-k c = omega (arith, turn_low _ _ _ _ _ _ _ _ _ _ c.requires c.if-rules-r-ne0.false)
 
 pub bounds-memory-k : goal.bounds-memory-k
-bounds-memory-k c = omega (arith, turn_room _ _ _ _ _ _ _ _ _ _ c.requires c.if-rules-r-ne0.false, c.step_rule-broken.ensures.same.culprits_length)
+bounds-memory-k c = omega (arith, turn_room _ _ _ _ _ _ _ _ _ _ c.requires c.if-rules-r-ne0.false, c.step_rule-broken.ensures.same.culprits.size)
 
-pub put_report-place-requires : goal.put_report-place-requires
-put_report-place-requires c =
+pub put_report-requires : goal.put_report-requires
+put_report-requires c =
     search (rules, turn_culprit _ _ _ _ _ _ _ _ _ _ c.requires c.if-rules-r-ne0.false _ _ c.step_rule-broken.ensures.stepped)
 
 pub returns-then-broken : goal.returns-then-broken

@@ -11,7 +11,7 @@ pub returns-else-not-before : goal.returns-else-not-before
 returns-else-not-before c = search (rules, stepped_before)
 
 pub bounds-memory-k-then-not-before : goal.bounds-memory-k-then-not-before
-bounds-memory-k-then-not-before c = omega (arith, count_pos c.requires.mon, c.step_node.ensures.same.failed_length)
+bounds-memory-k-then-not-before c = omega (arith, count_pos c.requires.mon, c.step_node.ensures.same.failed.size)
 
 pub returns-then-not-before : goal.returns-then-not-before
 returns-then-not-before c = search (rules, stepped_after)

@@ -6,11 +6,11 @@ use Rattle.listing_steps.proofs.step_rules.Goals as goal
 pub loop-r-init : goal.loop-r-init
 loop-r-init c = search (rules, upto_first)
 
-pub report_rule-p-requires : goal.report_rule-p-requires
-report_rule-p-requires c = search (rules, upto_due)
+pub report_rule-count-requires : goal.report_rule-count-requires
+report_rule-count-requires c = search (rules, upto_due)
 
 pub overflow_add-count : goal.overflow_add-count
-overflow_add-count c = omega (arith, c.report_rule-p.ensures.stepped.few, c.loop-r.invariant.ran.few, c.loop-r.invariant.ran.high, c.requires.rows.few)
+overflow_add-count c = omega (arith, c.report_rule-count.ensures.stepped.few, c.loop-r.invariant.ran.few, c.loop-r.invariant.ran.high, c.requires.rows.few)
 
 pub loop-r-preserved : goal.loop-r-preserved
 loop-r-preserved c = search (rules, upto_next)

@@ -8,4 +8,4 @@ use Rattle.node_table.proofs.pack.Goals as goal
 pub loop-i-preserved : goal.loop-i-preserved
 loop-i-preserved c = subst (λ (t : List FormulaNode). Packing c.args.c.ops c.args.c.nums c.args.c.count c.args.table.now (c.loop-i.i + 1) t)
     (sym c.put_node.ensures)
-    (packing_more c.args.c.ops c.args.c.nums c.args.c.count c.args.table.now c.loop-i.i c.loop-i.table c.requires.0.ops c.requires.0.nums c.requires.1 c.loop-i.invariant c.loop-i-test.true)
+    (packing_more c.args.c.ops c.args.c.nums c.args.c.count c.args.table.now c.loop-i.i c.loop-i.table c.args.c.ops_room c.args.c.nums_room c.requires c.loop-i.invariant c.loop-i-test.true)

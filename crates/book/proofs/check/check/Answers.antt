@@ -1,12 +1,9 @@
-use Rattle.book.proofs.Checks.{check_long, check_lined, check_ended, check_unended}
+use Rattle.book.proofs.Checks.{check_long, check_ended, check_unended}
 use borrow.Author.Rules.{rules}
 use Rattle.book.proofs.check.check.Goals as goal
 
 pub returns-then-text-gt-BOOK_BYTES : goal.returns-then-text-gt-BOOK_BYTES
 returns-then-text-gt-BOOK_BYTES c = search (rules, check_long)
-
-pub check_lines-requires : goal.check_lines-requires
-check_lines-requires c = search (rules, check_lined)
 
 pub returns-then-is_ended : goal.returns-then-is_ended
 returns-then-is_ended c = search (rules, check_ended)

@@ -6,4 +6,4 @@ use Rattle.layout.proofs.book.all_fine.Given as goal
 
 abbrev pub invariant-loop-r : goal.invariant-loop-r
 invariant-loop-r l =
-    all_below (fine_of (rule_at l.tables.formulas.ops.now l.tables.formulas.nums.now l.rules.firsts.now l.rules.counts.now) l.rules.refusals.now (mon_at l.tables.formulas.ops.now l.tables.formulas.nums.now l.rules.firsts.now l.rules.counts.now l.tables.nodes.now l.rules.nfirsts.now l.rules.ncounts.now)) l.r ≡ true
+    all_below (fine_of (rule_at l.rules.tables.formulas.ops.now l.rules.tables.formulas.nums.now l.rules.firsts.now l.rules.counts.now) l.rules.refusals.now (mon_at l.rules.tables.formulas.ops.now l.rules.tables.formulas.nums.now l.rules.firsts.now l.rules.counts.now l.rules.tables.nodes.now l.rules.nfirsts.now l.rules.ncounts.now)) l.r ≡ true

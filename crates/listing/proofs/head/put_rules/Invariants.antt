@@ -1,9 +1,11 @@
+use Rattle.text.specs.Lent.{tape_of, SameOut}
 use Rattle.listing.proofs.Heads.{Headed}
-use Rattle.text.specs.Tape.{tape}
-use lib.ListN.{length}
-use mathlib.Core.Path.{◌≡◌}
 use Rattle.listing.proofs.head.put_rules.Given as goal
 
 abbrev pub invariant-loop-r : goal.invariant-loop-r
 invariant-loop-r l =
-    Headed l.tables.formulas.ops.now l.tables.formulas.nums.now l.labels l.lens l.rules.kinds.now l.rules.firsts.now l.rules.counts.now l.tables.nodes.now l.rules.nfirsts.now l.rules.ncounts.now l.rules.refusals.now l.starts l.bits l.n l.r (tape l.initial.out l.at) (tape l.out l.place) × (length l.out ≡ length l.initial.out)
+    Headed l.placed.rules.tables.formulas.ops.now l.placed.rules.tables.formulas.nums.now l.placed.labels.now l.placed.lens.now
+    l.placed.rules.kinds.now l.placed.rules.firsts.now l.placed.rules.counts.now l.placed.rules.tables.nodes.now
+    l.placed.rules.nfirsts.now l.placed.rules.ncounts.now l.placed.rules.refusals.now l.placed.starts.now l.placed.bits.now
+    l.placed.rules.len l.r (tape_of l.initial.tape) (tape_of l.tape)
+    × SameOut l.initial.tape l.tape

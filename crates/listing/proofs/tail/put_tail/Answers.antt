@@ -3,8 +3,8 @@ use borrow.Author.Rules.{rules}
 use borrow.Author.Rules.{rules}
 use Rattle.listing.proofs.tail.put_tail.Goals as goal
 
-pub report_steps-told-requires : goal.report_steps-told-requires
-report_steps-told-requires c = search (rules, steps_due)
+pub report_steps-count-requires : goal.report_steps-count-requires
+report_steps-count-requires c = search (rules, steps_due)
 
 pub returns : goal.returns
 returns c = search (rules, tail_listed)

@@ -1,11 +1,9 @@
-use mathlib.Core.Path.{refl}
+use Rattle.listing.proofs.Wholes.{hands_read, refused_wrote}
 use borrow.Author.Rules.{rules}
-use Rattle.reader.proofs.Lent.{reads_lent}
-use Rattle.listing.proofs.Wholes.{read_hands}
 use Rattle.listing.proofs.whole.list_text.Goals as goal
 
-pub list_answer-requires : goal.list_answer-requires
-list_answer-requires c =
-    read_hands _ _ _ _ _ _ _ _ _ _ _ _ _ _ _ _ _ _ _ _ _ refl refl refl refl refl refl refl refl refl refl _
-    (reads_lent _ _ _ _ _ _ c.read_book-answer.ensures.read _ _ _ _ _ _ _ c.read_book-answer.new.slots.names.now c.read_book-answer.new.slots.lens.now _
-    (search rules) (search rules) (search rules) (search rules) (search rules) (search rules) (search rules) (search rules) (search rules) (search rules))
+pub returns-in-Err : goal.returns-in-Err
+returns-in-Err c = search (rules, refused_wrote)
+
+pub list_opened-requires : goal.list_opened-requires
+list_opened-requires c = search (rules, hands_read)

@@ -5,8 +5,8 @@ use Rattle.listing_line.proofs.node.put_expr.Goals as goal
 pub returns-in-True : goal.returns-in-True
 returns-in-True c = search (rules, expr_true)
 
-pub put_signal-place-requires : goal.put_signal-place-requires
-put_signal-place-requires c = search (rules, expr_ready)
+pub put_signal-requires : goal.put_signal-requires
+put_signal-requires c = search (rules, expr_ready)
 
 pub returns-in-At : goal.returns-in-At
 returns-in-At c = search (rules, expr_at)

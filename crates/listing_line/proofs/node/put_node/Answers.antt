@@ -2,26 +2,26 @@ use Rattle.listing_line.proofs.Nodes.{ready_range, ready_delayed, ready_delayed_
 use borrow.Author.Rules.{rules}
 use Rattle.listing_line.proofs.node.put_node.Goals as goal
 
-pub put_expr-d-requires : goal.put_expr-d-requires
-put_expr-d-requires c = search (rules, ready_range)
+pub put_expr-requires : goal.put_expr-requires
+put_expr-requires c = search (rules, ready_range)
 
 pub returns-in-RangeCheck : goal.returns-in-RangeCheck
 returns-in-RangeCheck c = search (rules, node_range)
 
-pub put_expr-d-requires-in-DelayedCheck : goal.put_expr-d-requires-in-DelayedCheck
-put_expr-d-requires-in-DelayedCheck c = search (rules, ready_delayed)
+pub put_expr-requires-in-DelayedCheck : goal.put_expr-requires-in-DelayedCheck
+put_expr-requires-in-DelayedCheck c = search (rules, ready_delayed)
 
-pub put_expr-requires : goal.put_expr-requires
-put_expr-requires c = search (rules, ready_delayed_2)
+pub put_expr-requires-in-DelayedCheck-2 : goal.put_expr-requires-in-DelayedCheck-2
+put_expr-requires-in-DelayedCheck-2 c = search (rules, ready_delayed_2)
 
 pub returns-in-DelayedCheck : goal.returns-in-DelayedCheck
 returns-in-DelayedCheck c = search (rules, node_delayed)
 
-pub put_expr-d-requires-in-Obligation : goal.put_expr-d-requires-in-Obligation
-put_expr-d-requires-in-Obligation c = search (rules, ready_owed)
-
 pub put_expr-requires-in-Obligation : goal.put_expr-requires-in-Obligation
-put_expr-requires-in-Obligation c = search (rules, ready_owed_2)
+put_expr-requires-in-Obligation c = search (rules, ready_owed)
+
+pub put_expr-requires-in-Obligation-2 : goal.put_expr-requires-in-Obligation-2
+put_expr-requires-in-Obligation-2 c = search (rules, ready_owed_2)
 
 pub returns-in-Obligation : goal.returns-in-Obligation
 returns-in-Obligation c = search (rules, node_owed)

@@ -11,8 +11,8 @@ bounds-skeleton-k c = search (rules, entry_room)
 pub bounds-skeleton-k-in-loop-k : goal.bounds-skeleton-k-in-loop-k
 bounds-skeleton-k-in-loop-k c = search (rules, entry_room_2)
 
-pub put_entry-place-requires : goal.put_entry-place-requires
-put_entry-place-requires c = search (rules, entry_ready)
+pub put_entry-requires : goal.put_entry-requires
+put_entry-requires c = search (rules, entry_ready)
 
 pub loop-k-preserved : goal.loop-k-preserved
 loop-k-preserved c = search (rules, entered_next)

@@ -8,11 +8,11 @@ put_owed-requires c = search (rules, ready_first)
 pub returns-then-kind-lt-UNTIL : goal.returns-then-kind-lt-UNTIL
 returns-then-kind-lt-UNTIL c = search (rules, owe_eventually)
 
-pub put_owed-b-requires : goal.put_owed-b-requires
-put_owed-b-requires c = search (rules, ready_first)
-
 pub put_owed-requires-2 : goal.put_owed-requires-2
-put_owed-requires-2 c = search (rules, ready_second)
+put_owed-requires-2 c = search (rules, ready_first)
+
+pub put_owed-requires-3 : goal.put_owed-requires-3
+put_owed-requires-3 c = search (rules, ready_second)
 
 pub returns : goal.returns
 returns c = search (rules, owe_until)

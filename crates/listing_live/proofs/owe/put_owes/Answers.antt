@@ -14,8 +14,8 @@ bounds-owed-k-in-loop-k c = search (rules, owe_room_1)
 pub bounds-owed-k-in-loop-k-2 : goal.bounds-owed-k-in-loop-k-2
 bounds-owed-k-in-loop-k-2 c = search (rules, owe_room_2)
 
-pub put_owe-place-requires : goal.put_owe-place-requires
-put_owe-place-requires c = search (rules, owe_ready)
+pub put_owe-requires : goal.put_owe-requires
+put_owe-requires c = search (rules, owe_ready)
 
 pub loop-k-preserved : goal.loop-k-preserved
 loop-k-preserved c = search (rules, owed_next)

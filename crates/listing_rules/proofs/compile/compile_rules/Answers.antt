@@ -1,9 +1,6 @@
-use Rattle.listing_rules.proofs.RuleLoop.{filling_none, enterable, filling_more, filled}
+use Rattle.listing_rules.proofs.RuleLoop.{enterable, filling_more, filled}
 use borrow.Author.Rules.{rules}
 use Rattle.listing_rules.proofs.compile.compile_rules.Goals as goal
-
-pub loop-r-init : goal.loop-r-init
-loop-r-init c = search (rules, filling_none)
 
 pub compile_one-at-requires : goal.compile_one-at-requires
 compile_one-at-requires c = search (rules, enterable)

@@ -5,11 +5,11 @@ use Rattle.listing_section.proofs.section.put_owing.Goals as goal
 pub put_owes-requires : goal.put_owes-requires
 put_owes-requires c = owes_asked _ _ _ _ _ _ _ c.requires _ _ c.in-Ok-Some.is (rw c.in-Ok-Some.is at c.in-Ok-Some.field-0-is)
 
-pub returns-in-Ok-Some : goal.returns-in-Ok-Some
-returns-in-Ok-Some c = owes_wrote _ _ _ _ _ _ _ c.requires _ _ _ _ c.in-Ok-Some.is (rw c.in-Ok-Some.is at c.in-Ok-Some.field-0-is) c.put_owes.ensures
+pub returns-in-Ok-Some-clause-wrote : goal.returns-in-Ok-Some-clause-wrote
+returns-in-Ok-Some-clause-wrote c = owes_wrote _ _ _ _ _ _ _ c.requires _ _ _ _ c.in-Ok-Some.is (rw c.in-Ok-Some.is at c.in-Ok-Some.field-0-is) c.put_owes.ensures.wrote
 
-pub returns-in-Ok-None : goal.returns-in-Ok-None
-returns-in-Ok-None c = owing_none _ _ _ _ _ _ _ c.requires _ _ c.in-Ok-None.is (rw c.in-Ok-None.is at c.in-Ok-None.field-0-is)
+pub returns-in-Ok-None-clause-wrote : goal.returns-in-Ok-None-clause-wrote
+returns-in-Ok-None-clause-wrote c = owing_none _ _ _ _ _ _ _ c.requires _ _ c.in-Ok-None.is (rw c.in-Ok-None.is at c.in-Ok-None.field-0-is)
 
 pub returns-in-Err : goal.returns-in-Err
 returns-in-Err c = search (rules, owing_refused)

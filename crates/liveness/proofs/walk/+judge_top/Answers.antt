@@ -32,14 +32,16 @@ returns-then-contains_liveness t c = search (rules, judged_live)
 pub returns-then-op-lt-AND : goal.returns-then-op-lt-AND
 returns-then-op-lt-AND t c = search (rules, judged_calm)
 
-pub judge_top-left-requires : goal.judge_top-left-requires
-judge_top-left-requires t c = (search (rules, falls_next), search (rules, placed_next))
-
-pub returns-in_default : goal.returns-in_default
-returns-in_default t c = search (rules, judged_left)
-
 pub judge_top-requires-then-op-lt-UNTIL : goal.judge_top-requires-then-op-lt-UNTIL
-judge_top-requires-then-op-lt-UNTIL t c = (search (rules, judged_falls), search (rules, judged_behind))
+judge_top-requires-then-op-lt-UNTIL t c = (search (rules, falls_next), search (rules, placed_next))
+
+pub returns-in_err-right : goal.returns-in_err-right
+returns-in_err-right t c =
+    let p = err_from_is_err_and c.from_residual.result c.from_residual.ensures.1 in
+    rw (p.1, p.2) (search (rules, judged_left, c.in_err-right.was))
+
+pub judge_top-requires-then-op-lt-UNTIL-2 : goal.judge_top-requires-then-op-lt-UNTIL-2
+judge_top-requires-then-op-lt-UNTIL-2 t c = (search (rules, judged_falls, c.in_ok-right.was), search (rules, judged_behind, c.in_ok-right.was))
 
 pub returns-then-op-lt-UNTIL : goal.returns-then-op-lt-UNTIL
 returns-then-op-lt-UNTIL t c = search (rules, judged_two)
@@ -49,7 +51,7 @@ operand_at-requires-2 t c = search (rules, placed_next)
 
 pub returns-in_err-m : goal.returns-in_err-m
 returns-in_err-m t c =
-    let p = err_from_is_err_and c.from_residual.result c.from_residual.ensures.1 in
+    let p = err_from_is_err_and c.from_residual-in_err-m.result c.from_residual-in_err-m.ensures.1 in
     rw (p.1, p.2) (search (rules, until_left, c.in_err-m.was))
 
 pub operand_at-requires-3 : goal.operand_at-requires-3

@@ -2,4 +2,4 @@ use Rattle.plan.specs.Rows.{Summed}
 use Rattle.plan.proofs.layout.rule_bits.Given as goal
 
 abbrev pub invariant-loop-j : goal.invariant-loop-j
-invariant-loop-j l = Summed l.nodes l.nfirst l.j l.sum
+invariant-loop-j l = Summed l.rows.nodes.now l.rows.first l.j l.sum

@@ -1,4 +1,4 @@
-use Rattle.reader.proofs.Loops.{fill_first, fill_past, fill_room, fill_at, fill_next, fill_end}
+use Rattle.reader.proofs.Loops.{fill_first, fill_past, fill_room, fill_next, fill_end}
 use borrow.Author.Rules.{rules}
 use Rattle.reader.proofs.fill.fill.Goals as goal
 
@@ -10,9 +10,6 @@ past-rest-requires c = search (rules, fill_past)
 
 pub put_line-f-requires : goal.put_line-f-requires
 put_line-f-requires c = search (rules, fill_room)
-
-pub overflow_add-at-in-loop-at : goal.overflow_add-at-in-loop-at
-overflow_add-at-in-loop-at c = search (rules, fill_at)
 
 pub loop-at-preserved : goal.loop-at-preserved
 loop-at-preserved c = search (rules, fill_next)

@@ -1,15 +1,9 @@
-use Rattle.reader.proofs.Fills.{line_none, rule_start, rule_len, line_rule_room, line_node_room, line_rule_put, line_node_put, line_kept, line_states, line_slot}
+use Rattle.reader.proofs.Fills.{line_none, line_rule_room, line_node_room, line_rule_put, line_node_put, line_kept, line_states, line_slot}
 use borrow.Author.Rules.{rules}
 use Rattle.reader.proofs.fill.put_line.Goals as goal
 
 pub returns-in_default : goal.returns-in_default
 returns-in_default c = search (rules, line_none)
-
-pub past-rest-requires : goal.past-rest-requires
-past-rest-requires c = search (rules, rule_start)
-
-pub upto-label-requires : goal.upto-label-requires
-upto-label-requires c = search (rules, rule_len)
 
 pub put_rule-requires : goal.put_rule-requires
 put_rule-requires c = search (rules, line_rule_room)

@@ -10,10 +10,10 @@ fill-requires c = search (rules, read_fillable)
 pub fill_slots-requires : goal.fill_slots-requires
 fill_slots-requires c = search (rules, read_slots_fillable)
 
-pub returns-in_err-held-clause-read : goal.returns-in_err-held-clause-read
-returns-in_err-held-clause-read c =
-    let e : c.from_residual.result ≡ Err c.in_err-held.field-0.0 = search rules in
-    rw e (read_refused _ _ _ c.requires _ c.check.ensures _ c.in_err-held.was)
+pub returns-in_err-read-clause-read : goal.returns-in_err-read-clause-read
+returns-in_err-read-clause-read c =
+    let e : c.from_residual.result ≡ Err c.in_err-read.field-0.0 = search rules in
+    rw e (read_refused _ _ _ c.requires _ c.check.ensures _ c.in_err-read.was)
 
 pub returns-clause-read : goal.returns-clause-read
-returns-clause-read c = read_good _ _ _ c.requires _ c.check.ensures _ c.in_ok-held.was _ _ c.fill.ensures.put c.fill_slots.ensures.put
+returns-clause-read c = read_good _ _ _ c.requires _ c.check.ensures _ c.in_ok-read.was _ _ c.fill.ensures.put c.fill_slots.ensures.put

@@ -1,4 +1,4 @@
-use Rattle.reader.proofs.OpeningPass.{slot_none, slot_other, slot_start, slot_len, slot_room, slot_fits, slot_put}
+use Rattle.reader.proofs.OpeningPass.{slot_none, slot_other, slot_room, slot_fits, slot_put}
 use borrow.Author.Rules.{rules}
 use Rattle.reader.proofs.slots.put_opening.Goals as goal
 
@@ -7,12 +7,6 @@ returns-in_default c = search (rules, slot_none)
 
 pub returns-in_default-content-clause-put : goal.returns-in_default-content-clause-put
 returns-in_default-content-clause-put c = slot_other _ _ c.read_line.ensures _ c.in-Ok.is _ _ c.in_default-content.not-Slot
-
-pub past-rest-requires : goal.past-rest-requires
-past-rest-requires c = search (rules, slot_start)
-
-pub upto-name-requires : goal.upto-name-requires
-upto-name-requires c = search (rules, slot_len)
 
 pub put_slot-requires : goal.put_slot-requires
 put_slot-requires c = search (rules, slot_room)

@@ -4,6 +4,6 @@ use Rattle.saving.proofs.restore.enter.Given as goal
 
 abbrev pub invariant-loop-k : goal.invariant-loop-k
 invariant-loop-k l = record {
-  entering : Entering l.nodes l.nfirst l.n l.bytes (memory_of l.initial.memory) (memory_of l.memory) l.at l.k;
+  entering : Entering l.rows.nodes.now l.rows.first l.rows.count l.bytes (memory_of l.initial.memory) (memory_of l.memory) l.at l.k;
   same : SameLists l.initial.memory l.memory;
 }

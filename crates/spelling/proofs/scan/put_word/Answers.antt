@@ -17,8 +17,8 @@ returns-then-op-lt-OR c = search (rules, word_and)
 pub returns-then-op-lt-IMPLIES : goal.returns-then-op-lt-IMPLIES
 returns-then-op-lt-IMPLIES c = search (rules, word_or)
 
-pub returns-then-op-ge12 : goal.returns-then-op-ge12
-returns-then-op-ge12 c = search (rules, word_past)
+pub returns-then-op-ge-UNTIL : goal.returns-then-op-ge-UNTIL
+returns-then-op-ge-UNTIL c = search (rules, word_past)
 
 pub returns-then-owing : goal.returns-then-owing
 returns-then-owing c = search (rules, word_owing)

@@ -19,7 +19,7 @@ returns-in_err-judge_top c =
     rw (p.1, p.2) (search (rules, split_fault, c.in_err-judge_top.was))
 
 pub decompose_top-filled-requires : goal.decompose_top-filled-requires
-decompose_top-filled-requires c = let a = c.args in search (rules, ready_rule a.table.now.ops.now a.table.now.nums.now a.first a.count a.assumed a.skeleton.now a.owed.now c.is_roomy.result c.is_roomy.ensures c.if-not-is_roomy.false c.if-skeleton-lt-SKELETON_ROOM.false c.if-owed-lt-OWED_ROOM.false c.is_rule.result c.is_rule.ensures c.if-not-is_rule.false c.if-assumed.false c.contains_liveness-lives.result c.contains_liveness-lives.ensures c.if-not-lives.false c.judge_top.result c.judge_top.ensures, c.in_ok-judge_top.was)
+decompose_top-filled-requires c = let a = c.args in search (rules, ready_rule a.table.now.ops.now a.table.now.nums.now a.span.first a.span.count a.assumed a.skeleton.now a.owed.now c.is_roomy.result c.is_roomy.ensures c.if-not-is_roomy.false c.if-skeleton-lt-SKELETON_ROOM.false c.if-owed-lt-OWED_ROOM.false c.is_rule.result c.is_rule.ensures c.if-not-is_rule.false c.if-assumed.false c.contains_liveness-lives.result c.contains_liveness-lives.ensures c.if-not-lives.false c.judge_top.result c.judge_top.ensures, c.in_ok-judge_top.was)
 
 pub returns : goal.returns
 returns c = search (rules, split_parts, not-true, not-false, c.in_ok-judge_top.was)

@@ -1,19 +1,26 @@
-use mathlib.Core.Path.{◌≡◌, subst}
-use Rattle.node_step.specs.Memory.{Memory}
-use Rattle.lent.specs.Lent.{lent_of}
+use mathlib.Core.Path.{◌≡◌, ap, sym, ◌∙◌}
+use Rattle.std.specs.Prelude.{Err}
+use Rattle.std.specs.Result.{result_err}
 use Rattle.lent.proofs.Refusals.{spanned}
-use Rattle.stepping.proofs.Filling.{made_all, made_none, made_short}
+use Rattle.stepping.proofs.Filling.{made_all, made_refused}
 use borrow.Author.Rules.{rules}
 use Rattle.stepping.proofs.fresh.fresh.Goals as goal
 
-pub returns-then-not-is_lent : goal.returns-then-not-is_lent
-returns-then-not-is_lent c = let lent = (subst (λ (m : Memory). c.is_lent.result ≡ lent_of c.args.tables.now.formulas.ops.now c.args.tables.now.formulas.nums.now c.args.tables.now.nodes.now c.args.forms.now c.args.bounds.now m) c.entries.ensures c.is_lent.ensures) in search (rules, made_short)
-
-pub returns-then-not-is_compiled : goal.returns-then-not-is_compiled
-returns-then-not-is_compiled c = let lent = (subst (λ (m : Memory). c.is_lent.result ≡ lent_of c.args.tables.now.formulas.ops.now c.args.tables.now.formulas.nums.now c.args.tables.now.nodes.now c.args.forms.now c.args.bounds.now m) c.entries.ensures c.is_lent.ensures) in search (rules, made_none)
+pub returns-in_err-admit : goal.returns-in_err-admit
+returns-in_err-admit c =
+    let e : c.from_residual.result ≡ Err c.in_err-admit.field-0.0 = search rules in
+    let lent = rw c.entries.ensures at c.admit.ensures in
+    let why = sym lent ∙ ap result_err c.in_err-admit.was in
+    rw e (search (rules, made_refused))
 
 pub make-requires : goal.make-requires
-make-requires c = spanned _ _ _ _ _ _ _ _ _ _ _ (subst (λ (m : Memory). c.is_lent.result ≡ lent_of c.args.tables.now.formulas.ops.now c.args.tables.now.formulas.nums.now c.args.tables.now.nodes.now c.args.forms.now c.args.bounds.now m) c.entries.ensures c.is_lent.ensures) c.if-not-is_lent.false _ c.is_compiled.ensures c.if-not-is_compiled.false
+make-requires c =
+    let lent = rw c.entries.ensures at c.admit.ensures in
+    rw c.rows.ensures (search (rules, spanned))
 
 pub returns : goal.returns
-returns c = let lent = (subst (λ (m : Memory). c.is_lent.result ≡ lent_of c.args.tables.now.formulas.ops.now c.args.tables.now.formulas.nums.now c.args.tables.now.nodes.now c.args.forms.now c.args.bounds.now m) c.entries.ensures c.is_lent.ensures) in search (rules, made_all)
+returns c =
+    let lent = rw c.entries.ensures at c.admit.ensures in
+    let none = sym lent ∙ ap result_err c.in_ok-admit.was in
+    let makes = rw c.rows.ensures at c.make.ensures in
+    search (rules, made_all)

@@ -1,5 +1,5 @@
 use Rattle.std.proofs.lemmas.Result.{err_from_is_err_and}
-use Rattle.table_step.specs.Over.{tables_over}
+use Rattle.table_step.specs.Over.{part_over}
 use Rattle.watch.proofs.Watching.{left_end, fewer, left_refused, left_reported, left_next}
 use Rattle.watch.proofs.rule.watch_steps.Goals as goal
 
@@ -13,7 +13,7 @@ returns-then-branch c = rw c.report_of.ensures (left_reported _ _ _ _ _ _ _ c.ne
 
 pub loop-line-smaller : goal.loop-line-smaller
 loop-line-smaller c =
-    fewer (tables_over c.args.table c.args.part.first c.args.part.count c.args.nodes.now c.args.part.nfirst c.args.part.ncount) c.args.m _ c.args.from c.loop-line.k _ _ c.next_step.ensures _ c.in-Some.is
+    fewer (part_over c.args.table c.args.nodes.now c.args.part) c.args.m _ c.args.from c.loop-line.k _ _ c.next_step.ensures _ c.in-Some.is
 
 pub loop-line-preserved : goal.loop-line-preserved
 loop-line-preserved c = left_next _ _ _ _ _ _ _ c.next_step.ensures _ c.in-Some.is c.loop-line.invariant _ c.step_over-a.ensures _ c.in_ok-a.was c.if-branch.false

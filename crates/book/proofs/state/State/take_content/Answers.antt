@@ -1,6 +1,6 @@
 use mathlib.Core.Path.{◌≡◌}
 use Rattle.std.specs.Prelude.{Err}
-use Rattle.book.proofs.States.{right_place, right_limit, right_addable, right_adds}
+use Rattle.book.proofs.States.{right_place, right_limit, right_adds}
 use borrow.Author.Rules.{rules}
 use Rattle.book.proofs.state.State.take_content.Goals as goal
 
@@ -11,9 +11,6 @@ returns-in_err-placed c =
 
 pub returns-then-not-within : goal.returns-then-not-within
 returns-then-not-within c = search (rules, right_limit, c.in_ok-placed.was)
-
-pub add-requires : goal.add-requires
-add-requires c = search (rules, right_addable, c.in_ok-placed.was)
 
 pub returns : goal.returns
 returns c = search (rules, right_adds, c.in_ok-placed.was)

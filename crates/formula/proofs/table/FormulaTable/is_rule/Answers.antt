@@ -4,11 +4,11 @@ use borrow.Author.Rules.{rules}
 use Rattle.formula.proofs.Rules.{too_many, past_table, past_ops, past_nums, ends_there}
 use Rattle.formula.proofs.table.FormulaTable.is_rule.Goals as goal
 
-pub returns-then-count-gt-RULE_NODES : goal.returns-then-count-gt-RULE_NODES
-returns-then-count-gt-RULE_NODES c = search (rules, too_many)
+pub returns-then-span-gt-RULE_NODES : goal.returns-then-span-gt-RULE_NODES
+returns-then-span-gt-RULE_NODES c = search (rules, too_many)
 
-pub returns-then-count-first : goal.returns-then-count-first
-returns-then-count-first c = search (rules, past_table)
+pub returns-then-span : goal.returns-then-span
+returns-then-span c = search (rules, past_table)
 
 pub returns-then-self-end : goal.returns-then-self-end
 returns-then-self-end c = search (rules, past_ops)

@@ -1,9 +1,0 @@
-use Rattle.listing.proofs.Wholes.{hands_read, refused_wrote}
-use borrow.Author.Rules.{rules}
-use Rattle.listing.proofs.whole.list_answer.Goals as goal
-
-pub returns-in-Err : goal.returns-in-Err
-returns-in-Err c = search (rules, refused_wrote)
-
-pub list_opened-requires : goal.list_opened-requires
-list_opened-requires c = search (rules, hands_read)
