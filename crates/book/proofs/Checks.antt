@@ -16,7 +16,8 @@ use Rattle.line.specs.Means.{means}
 use Rattle.line.specs.Means.{Answer}
 use Rattle.line.proofs.Parts.{lines_next}
 use Rattle.book.specs.Book.{Book, empty, fault, add, add_line, Outcome, refusal, book_result, unless, read_on, ended, read}
-use Rattle.book.specs.Checked.{result_of, Lined, HoldsBook, Agrees, TakesLine}
+use Rattle.book.specs.Answer.{result_of}
+use Rattle.book.specs.Checked.{Lined, HoldsBook, Agrees, TakesLine}
 use Rattle.book.specs.declared.state.State.{State}
 use Rattle.std.specs.Prelude.{Result, Ok, Err}
 use Rattle.result.specs.Refusal.{number_of}

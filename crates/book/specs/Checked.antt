@@ -1,4 +1,4 @@
--- What the check answers, and how its state stands for what has been read.
+-- How the state of the check stands for what has been read.
 use Rattle.std.specs.Prelude.{◌≡◌, Bool, true, false, not, List, ℕ, ◌+◌, ◌^◌, ◌≤◌, ◌<◌, length}
 use Rattle.std.proofs.Math.Option.{Option, none, some}
 use Rattle.terms.specs.Limits.{book_bytes, book_nodes, book_rules, book_slots, deepest, rule_nodes}
@@ -11,19 +11,11 @@ use Rattle.std.specs.Prelude.{Result, Ok, Err}
 use Rattle.line.specs.Means.{Answer}
 use Rattle.line.specs.declared.line.Content.{Content}
 use Rattle.line.specs.declared.line.Fault.{Fault}
-use Rattle.result.specs.Refusal.{number_of}
 use Rattle.result.specs.declared.Refusal.{Refusal}
 use Rattle.result.specs.declared.Refusal.TheVariants as why
-use Rattle.book.specs.Book.{Book, is_nil, last_of, opening, stands, opens, within, or_else, fault, add, add_line, BookResult, contents, refusal, ended}
+use Rattle.book.specs.Book.{Book, is_nil, last_of, opening, stands, opens, within, or_else, fault, add, add_line, ended}
 use Rattle.book.specs.Due.{due_of}
 use Rattle.book.specs.declared.state.State.{State}
-use Rattle.book.specs.declared.check.Read.{Read}
-use Rattle.book.specs.declared.check.Refused.{Refused}
-
--- document 01's result for each case of the answer
-abbrev pub result_of : Result Read Refused → BookResult
-result_of (Ok h) = contents h.rules h.nodes h.steps_at h.slots h.states
-result_of (Err r) = refusal (number_of r.refusal) r.line
 
 -- a text that is no longer than a book and ends where a line ends
 pub record Lined (text : List ℕ) : Type 0 where

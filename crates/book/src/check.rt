@@ -2,7 +2,8 @@
 ghost use Rattle.std.specs.Prelude.{◌≡◌};
 ghost use Rattle.line.specs.Text.{lines};
 ghost use Rattle.book.specs.Book.{empty, read_on, read, book_result, ended};
-ghost use Rattle.book.specs.Checked.{result_of, Lined};
+ghost use Rattle.book.specs.Answer.{result_of};
+ghost use Rattle.book.specs.Checked.{Lined};
 
 use crate::state::start;
 use line::line::read_line;

@@ -13,7 +13,7 @@ use Rattle.result.specs.Refusal.{number_of, told as result_of}
 use Rattle.result.specs.declared.Refusal.{Refusal}
 use Rattle.book.specs.Book.{book_result}
 use Rattle.reader.specs.BookTables.{BookTables, SlotTables, read_into}
-use Rattle.book.specs.Checked as Reading
+use Rattle.book.specs.Answer as Reading
 use Rattle.reader.specs.Answer.{Reads}
 use Rattle.reader.specs.Steps as Steps
 use Rattle.reader.specs.Steps.{next_step}

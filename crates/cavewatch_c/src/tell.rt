@@ -1,6 +1,6 @@
 // Each answer's result as a number, and the further numbers that go to the front of `found`.
 ghost use Rattle.std.specs.Prelude.{◌≡◌};
-ghost use Rattle.book.specs.Checked as Reading;
+ghost use Rattle.book.specs.Answer as Reading;
 ghost use Rattle.reader.specs.Steps as Steps;
 ghost use Rattle.result.specs.Refusal.{told as result_of};
 ghost use Rattle.cavewatch_c.specs.Numbers.{told, book_told, line_told, count_told, made_told, step_told, run_told};

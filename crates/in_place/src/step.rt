@@ -20,35 +20,20 @@ pub struct Advanced {
 pub fn stepped(m: ReferenceMonitor, tables: &Tables, part: Part, s: u64, w: u64) -> Advanced
     ensures { result ≡ step_in (tables_of tables.now part) m s w }
 {
-    // array by array: a step of one node takes 161 ns so, 172 by a second struct, 226 by `..m`
-    let size = m.size;
-    let forms = m.forms;
-    let bounds = m.bounds;
-    let mut held = m.held;
-    let mut remaining = m.remaining;
-    let mut failed = m.failed;
-    let mut culprits = m.culprits;
+    // a second struct: array by array each is cleared and copied anew, a step of one node in a loop in 280 ns and not in 146
+    let mut monitor = m;
     let frame = Frame {
-        size,
-        forms: &forms,
-        bounds: &bounds,
+        size: monitor.size,
+        forms: &monitor.forms,
+        bounds: &monitor.bounds,
     };
     let mut memory = Memory {
-        held: &mut held,
-        remaining: &mut remaining,
-        failed: &mut failed,
-        culprits: &mut culprits,
+        held: &mut monitor.held,
+        remaining: &mut monitor.remaining,
+        failed: &mut monitor.failed,
+        culprits: &mut monitor.culprits,
     };
     let verdict = stepping::call::step(tables, part, &frame, &mut memory, s, w);
-    let monitor = ReferenceMonitor {
-        size,
-        forms,
-        bounds,
-        held,
-        remaining,
-        failed,
-        culprits,
-    };
     Advanced { monitor, verdict }
 }
 

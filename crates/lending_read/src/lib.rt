@@ -5,7 +5,7 @@
 ghost use Rattle.node_table.specs.Node.{ops_of, nums_of};
 ghost use Rattle.reader.specs.Answer.{Reads};
 ghost use Rattle.reader.specs.Lists.{slots_in, SameSlots};
-ghost use Rattle.table_read.specs.Filling.{with_table};
+ghost use Rattle.table_read.specs.RuleList.{with_table};
 ghost use Rattle.table_read.specs.Lists.{rules_in, SameRules};
 
 use book::check::{Read, Refused};

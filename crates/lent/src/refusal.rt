@@ -34,6 +34,7 @@ fn admit(
 
 impl Blank<'_> {
     // Tests what a call is lent that makes a monitor. What the monitor held is not looked at.
+    #[inline(always)]
     pub fn admit(&self, tables: &Tables, part: Part, entries: &Entries) -> Result<(), Refusal>
         ensures { result_err result ≡ refusal_to_make (tables_of tables.now part) self.now.forms.now self.now.bounds.now (entries_of entries.now) }
     {
@@ -42,6 +43,7 @@ impl Blank<'_> {
 }
 
 // Tests what a call on a monitor is lent.
+#[inline(always)]
 pub fn admit_monitor(
     tables: &Tables,
     part: Part,

@@ -13,7 +13,8 @@ use Rattle.book.specs.declared.check.Refused.{Refused}
 use Rattle.reader.specs.BookTables.{BookTables, columns}
 use Rattle.reader.specs.Answer.{Roomy, RoomySlots}
 use Rattle.opened.specs.declared.Book.{Book as Memory}
-use Rattle.opened.specs.Opened.{blank, blank_slots, Opened, Opens}
+use Rattle.opened.specs.Opened.{blank, blank_slots, blank_book, Opened, Opens, ReadsIn}
+use Rattle.opened.proofs.Reading.{read_opens, read_refuses}
 use Rattle.listing.specs.Books.{columns_in}
 use Rattle.text.specs.Tape.{Tape, tape, Wrote}
 use Rattle.text.proofs.Tapes.{as_text, then, wrote_first}
@@ -32,7 +33,7 @@ use Rattle.listing_steps.specs.Holding.{Rows}
 use Rattle.listing_steps.specs.Stepped.{StepsDue, StepsReported}
 use Rattle.listing_steps.proofs.Start.{tabled_rows}
 use Rattle.result.specs.Result.{given}
-use Rattle.std.specs.Prelude.{Result, Ok, Err}
+use Rattle.std.specs.Prelude.{Result, Ok, Err, ⊤}
 use Rattle.result.specs.declared.Refusal.TheVariants.{Short}
 use Rattle.listing.specs.Whole.{HeadListed, Compiled, TailListed}
 use Rattle.listing.specs.LentLists.{HoldsRules}
@@ -84,13 +85,12 @@ module _ (text : List ℕ) where
       answer_hands text blank blank_slots _ _ (Err e) blank_roomy blank_slots_roomy refl refl
       record { answer = p; tables = refl; slots = refl }
 
-  module _ (r : Result Memory Refused) (o : Opens text r) where
-    pub hands_read : (b : Memory) → r ≡ Ok b
-        → HandedOpening text (columns_in b) b.widths b.read.rules b.read.steps_at b.read.slots b.read.states
-    hands_read b e = opened_hands b (subst (Opens text) e o)
+  module _ (b b' : Memory) (z : b ≡ blank_book) (r : Result ⊤ Refused) (p : ReadsIn text b r b') where
+    pub hands_read : (u : ⊤) → r ≡ Ok u → HandedOpening text (columns_in b') b'.widths b'.read.rules b'.read.steps_at b'.read.slots b'.read.states
+    hands_read u e = opened_hands b' (read_opens text b b' z r p u e)
 
     pub refused_wrote : (q : Refused) (n : ℕ) (x y : Tape) → r ≡ Err q → n ≡ number_of q.refusal → Wrote x (refused_line n q.line) y → Wrote x (listing text) y
-    refused_wrote q n x y e f w = as_text x y (refused_is q (subst (Opens text) e o) ∙ ap (λ (k : ℕ). refused_line k q.line) (sym f)) w
+    refused_wrote q n x y e f w = as_text x y (refused_is q (read_refuses text b b' z r p q e) ∙ ap (λ (k : ℕ). refused_line k q.line) (sym f)) w
 
 -- ---- an accepted book
 module _ (text labels lens kinds firsts counts ops nums : List ℕ) (n from state vars : ℕ) (h : Handed text (columns labels lens kinds firsts counts ops nums) n from state vars) where

@@ -15,7 +15,7 @@ use listing_line::plan_line::put_plan;
 use listing_report::put_refused;
 use listing_rules::lists::{BookLists, RuleTables};
 use listing_rules::place::encode_rules;
-use opened::{Book, open_book};
+use opened::Book;
 use result::Refusal;
 use terms::limit::{BOOK_CELLS, BOOK_RULES, LISTING_BYTES};
 use text::write::Tape;
@@ -82,10 +82,12 @@ fn list_text(text: &[u8], tape: &mut Tape)
     ensures wrote { Wrote (tape_of tape.old) (listing text.now) (tape_of tape.new) }
     ensures same { SameOut tape.old tape.new }
 {
-    match open_book(text) {
+    // read in place: an answer that holds a book is copied, 14 KB of it
+    let mut book = Book::blank();
+    match book.read_in(text) {
         // `as`: the number fits, and a `TryFrom` would have an error that cannot be
         Err(refused) => put_refused(tape, u64::from(refused.refusal), refused.line as u64),
-        Ok(book) => list_opened(text, &book, tape),
+        Ok(()) => list_opened(text, &book, tape),
     }
 }
 

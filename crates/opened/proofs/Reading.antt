@@ -1,16 +1,19 @@
 -- A book that is read has no more rules than there are places for.
 use mathlib.Core.List.{List}
-use mathlib.Core.Path.{◌≡◌, subst}
+use mathlib.Core.Path.{◌≡◌, refl, subst}
 use Prim.Native.Nat.{ℕ, ◌≤◌}
 use native.Mathlib.Omega.{arith}
-use Rattle.std.specs.Prelude.{Result, Ok}
+use Rattle.std.specs.Prelude.{Result, Ok, Err, ⊤}
 use Rattle.terms.specs.Limits.{book_rules}
 use Rattle.book.specs.declared.check.Refused.{Refused}
 use Rattle.reader.specs.BookTables.{BookTables, SlotTables, columns, slot_columns}
 use Rattle.reader.specs.Answer.{Reads}
 use Rattle.book.specs.declared.check.Read.{Read}
 use Rattle.opened.specs.declared.Book.{Book as Memory}
-use Rattle.opened.specs.Opened.{blank, blank_slots, Opened}
+use Rattle.book.specs.Book.{book_result}
+use Rattle.book.specs.Answer.{result_of}
+use Rattle.reader.specs.BookTables.{read_into}
+use Rattle.opened.specs.Opened.{blank, blank_slots, blank_book, Opened, ReadsIn}
 use Rattle.reader.proofs.Answers.{read_inv}
 use Rattle.book_laws.proofs.RuleLaws.{accepted_done, into_accepted}
 
@@ -28,3 +31,14 @@ pub opened : (text : List ℕ) (b : Memory) (r : Result Read Refused)
     → Reads text blank blank_slots r (columns b.labels b.lens b.kinds b.firsts b.counts b.ops b.nums) (slot_columns b.names b.sizes b.widths) → r ≡ Ok b.read
     → Opened text b
 opened text b r p e = record { reads = reads_ok text blank blank_slots _ _ r b.read p e; few = few_rules text blank blank_slots _ _ r b.read p e }
+
+-- so it is of a blank book into which a text was read
+module _ (text : List ℕ) (b b' : Memory) (z : b ≡ blank_book) (r : Result ⊤ Refused) (p : ReadsIn text b r b') where
+  into_blank : (a : Result ⊤ Refused) → r ≡ a → ReadsIn text blank_book a b'
+  into_blank a e = subst (λ (x : Result ⊤ Refused). ReadsIn text blank_book x b') e (subst (λ (x : Memory). ReadsIn text x r b') z p)
+
+  pub read_opens : (u : ⊤) → r ≡ Ok u → Opened text b'
+  read_opens u e = opened text b' (Ok b'.read) (into_blank (Ok u) e) refl
+
+  pub read_refuses : (x : Refused) → r ≡ Err x → result_of (Err x) ≡ book_result (read_into text blank blank_slots)
+  read_refuses x e = (into_blank (Err x) e).0.answer

@@ -3,7 +3,7 @@
 
 ghost use Rattle.std.specs.Prelude.{◌≡◌, ◌<◌, get_or};
 ghost use Rattle.terms.specs.Limits.{book_rules};
-ghost use Rattle.opened.specs.Opened.{CompilesAt, Opens};
+ghost use Rattle.opened.specs.Opened.{CompilesAt, Opens, ReadsIn, blank_book};
 
 use book::check::{Read, Refused};
 use compiler::compile_formula;
@@ -32,6 +32,55 @@ pub struct Book {
 }
 
 impl Book {
+    // A book in which nothing is read: tables of zeros.
+    #[inline(always)]
+    pub fn blank() -> Book
+        ensures { result ≡ blank_book }
+    {
+        Book {
+            read: Read {
+                rules: 0,
+                nodes: 0,
+                steps_at: 0,
+                slots: 0,
+                states: None,
+            },
+            labels: [0; LABELS_ROOM],
+            lens: [0; BOOK_RULES],
+            kinds: [0; BOOK_RULES],
+            firsts: [0; BOOK_RULES],
+            counts: [0; BOOK_RULES],
+            ops: [0; BOOK_NODES],
+            nums: [0; BOOK_NODES],
+            names: [0; NAMES_ROOM],
+            sizes: [0; BOOK_SLOTS],
+            widths: [0; BOOK_SLOTS],
+        }
+    }
+
+    // Reads a book into these tables. A refusal leaves all as it was.
+    pub fn read_in(&mut self, text: &[u8]) -> Result<(), Refused>
+        ensures { ReadsIn text.now self.old result self.new }
+    {
+        let mut tables = BookTables {
+            labels: &mut self.labels,
+            lens: &mut self.lens,
+            kinds: &mut self.kinds,
+            firsts: &mut self.firsts,
+            counts: &mut self.counts,
+            ops: &mut self.ops,
+            nums: &mut self.nums,
+        };
+        let mut slots = SlotTables {
+            names: &mut self.names,
+            lens: &mut self.sizes,
+            widths: &mut self.widths,
+        };
+        let read = read_book(text, &mut tables, &mut slots)?;
+        self.read = read;
+        Ok(())
+    }
+
     // The formula table.
     pub fn formulas(&self) -> FormulaTable
         ensures ops { result.ops.now ≡ self.now.ops }
@@ -72,42 +121,7 @@ impl Book {
 pub fn open_book(text: &[u8]) -> Result<Book, Refused>
     ensures { Opens text.now result }
 {
-    let mut labels = [0u8; LABELS_ROOM];
-    let mut lens = [0usize; BOOK_RULES];
-    let mut kinds = [0u8; BOOK_RULES];
-    let mut firsts = [0usize; BOOK_RULES];
-    let mut counts = [0usize; BOOK_RULES];
-    let mut ops = [0u8; BOOK_NODES];
-    let mut nums = [0u64; BOOK_NODES];
-    let mut names = [0u8; NAMES_ROOM];
-    let mut sizes = [0usize; BOOK_SLOTS];
-    let mut widths = [0u64; BOOK_SLOTS];
-    let mut tables = BookTables {
-        labels: &mut labels,
-        lens: &mut lens,
-        kinds: &mut kinds,
-        firsts: &mut firsts,
-        counts: &mut counts,
-        ops: &mut ops,
-        nums: &mut nums,
-    };
-    let mut slots = SlotTables {
-        names: &mut names,
-        lens: &mut sizes,
-        widths: &mut widths,
-    };
-    let read = read_book(text, &mut tables, &mut slots)?;
-    Ok(Book {
-        read,
-        labels,
-        lens,
-        kinds,
-        firsts,
-        counts,
-        ops,
-        nums,
-        names,
-        sizes,
-        widths,
-    })
+    let mut book = Book::blank();
+    book.read_in(text)?;
+    Ok(book)
 }

@@ -21,7 +21,7 @@ use Rattle.line.specs.Line.{Line, bad, wrong, right, sort_of, refusal_of}
 use Rattle.line.specs.declared.line.Flaw.{Flaw}
 use Rattle.line.specs.declared.line.Flaw.TheVariants as flaw
 use Rattle.book.specs.Book.{Book, empty, whole, or_else, order, fault, first_fault, stands, opens, within, add_line, unless, read_on, ended, Outcome, accepted, refused, contents, refusal, book_result, read}
-use Rattle.book.specs.Checked as Checking
+use Rattle.book.specs.Answer as Checking
 use Rattle.book.specs.declared.check.Read.{Read}
 use Rattle.book.specs.declared.check.Refused.{Refused}
 use Rattle.reader.specs.BookTables.{BookTables, SlotTables, written, slots_written, roomy, roomy_slots, read_into, after, slots_after}

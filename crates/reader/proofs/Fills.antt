@@ -1,9 +1,11 @@
 -- Stores into the lent tables: the laws of the functions that fill them.
 use mathlib.Core.Path.{◌≡◌, refl, sym, ap, ap₂, subst, ◌∙◌}
-use mathlib.Core.List.{List}
-use Prim.Native.Nat.{ℕ}
+use mathlib.Core.List.{List, ◌++◌}
+use Prim.Native.Nat.{ℕ, ◌+◌, ◌≤◌, ◌<◌}
 use native.Mathlib.Omega.{arith}
-use lib.ListN.{take, drop}
+use native.Mathlib.Numerals.{add-one}
+use lib.Seq.{paste, paste-zero, paste-suc, take-length}
+use lib.ListN.{length, take, drop, get_or, set, length-set}
 use Rattle.terms.specs.Kinds.{kind_number}
 use Rattle.terms.specs.declared.kind.Kind.{Kind}
 use Rattle.line.specs.Line.{Content, rule, node, right, parse}
@@ -14,8 +16,33 @@ use Rattle.std.specs.Prelude.{Ok, Err}
 use Rattle.line.specs.declared.line.Fault.{Fault}
 use Rattle.line.specs.declared.line.Fault.TheVariants as fault_of
 use Rattle.reader.specs.BookTables.{BookTables}
-use Rattle.reader.specs.FillingPass.{RuleRoom, RuleDone, NodeRoom, NodeDone, LineRoom, LinePut, LeftBy}
+use Rattle.reader.specs.FillingPass.{placed, RuleRoom, RuleDone, NodeRoom, NodeDone, LineRoom, LinePut, LeftBy}
 use Rattle.reader.specs.declared.fill.Tally.{Tally}
+
+-- ---- a copy
+pub record Copying (dst₀ : List ℕ) (at : ℕ) (src dst : List ℕ) (j : ℕ) : Type 0 where
+  pub inside : j ≤ length src
+  pub is : dst ≡ paste dst₀ at src j
+  pub long : length dst ≡ length dst₀
+
+pub copy_first : (dst : List ℕ) (at : ℕ) (src : List ℕ) → Copying dst at src dst 0
+copy_first dst at src = record { inside = omega arith; is = paste-zero dst at src; long = refl }
+
+module _ (dst₀ : List ℕ) (at : ℕ) (src dst : List ℕ) (j : ℕ) (c : Copying dst₀ at src dst j) (room : at + length src ≤ length dst₀) where
+  pub copy_in_dst : j < length src → at + j < length dst
+  copy_in_dst h = omega (arith, c.long)
+
+  pub copy_next : j < length src → Copying dst₀ at src (set dst (at + j) (get_or src j 0)) (j + 1)
+  copy_next h = record {
+    inside = omega arith;
+    is = ap (λ (l : List ℕ). set l (at + j) (get_or src j 0)) c.is ∙ paste-suc dst₀ at src j 0 (omega arith) h ∙ ap (paste dst₀ at src) (sym (add-one j));
+    long = length-set dst (at + j) (get_or src j 0) ∙ c.long;
+  }
+
+  pub copy_end : length src ≤ j → dst ≡ placed dst₀ at src
+  copy_end h =
+      let e : j ≡ length src = omega (arith, c.inside) in
+      c.is ∙ ap (paste dst₀ at src) e ∙ ap (λ (l : List ℕ). take at dst₀ ++ l ++ drop (at + length src) dst₀) (take-length src)
 
 -- ---- a line
 module _ (line : List ℕ) (l : Answer) (is : LineIs line l) where

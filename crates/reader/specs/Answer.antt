@@ -3,7 +3,7 @@
 use Rattle.std.specs.Prelude.{◌≡◌, List, ℕ, ◌≤◌, length}
 use Rattle.terms.specs.Limits.{book_nodes, book_rules, book_slots, labels_room, names_room}
 use Rattle.book.specs.Book.{book_result}
-use Rattle.book.specs.Checked.{result_of}
+use Rattle.book.specs.Answer.{result_of}
 use Rattle.reader.specs.BookTables.{BookTables, SlotTables, read_into, after, slots_after}
 use Rattle.std.specs.Prelude.{Result}
 use Rattle.book.specs.declared.check.Refused.{Refused}

@@ -16,12 +16,14 @@ pub struct Tally {
     pub own: usize,
 }
 
-// All of src into dst from a place on.
+// All of src into dst from a place on. Not by `copy_from_slice`: the library for C would need `memmove` from outside.
 pub(crate) fn copy_in(dst: &mut [u8], at: usize, src: &[u8])
     requires { at + length src.now ≤ length dst.old }
     ensures { dst.new ≡ placed dst.old at src.now }
 {
-    dst[at..at + src.len()].copy_from_slice(src);
+    for k in 0..src.len() {
+        dst[at + k] = src[k];
+    }
 }
 
 // A rule's head at its place of the rule list.

@@ -1,7 +1,9 @@
 -- The number of each refusal: document 01's "When no result is given" has 1 to 24, document 02 25 to 27.
 --     number_of    the number of a refusal
+--     refused_text    what is printed of a refusal: `refused`, a space, its number
 --     told         what a call that answers a value or a refusal tells: the value, or the refusal's number
-use Rattle.std.specs.Prelude.{ℕ, Ok, Err}
+use Rattle.std.specs.Prelude.{ℕ, List, ◌∷◌, Ok, Err}
+use Rattle.std.specs.Fmt.{decimal}
 use Rattle.std.specs.Prelude.{Result as Returned}
 use Rattle.result.specs.Result.{Result, given, refused}
 use Rattle.result.specs.declared.Refusal.{Refusal}
@@ -36,6 +38,9 @@ number_of Late = 24
 number_of Unopened = 25
 number_of Failed = 26
 number_of Unsaved = 27
+
+abbrev pub refused_text : Refusal → List ℕ
+refused_text r = 114 ∷ 101 ∷ 102 ∷ 117 ∷ 115 ∷ 101 ∷ 100 ∷ 32 ∷ decimal (number_of r)
 
 abbrev pub told : {A : Type 0} → Returned A Refusal → Result A
 told (Ok a) = given a

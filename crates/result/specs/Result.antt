@@ -1,5 +1,5 @@
 -- Document 01's result of a call: what is given, or the number of the refusal, which then is the whole result.
---     Result    beside each answer enum a definition says which result each of its cases is; the contracts are stated with it
+--     Result    `told` (Refusal.antt) says of an answer which result it is; the contracts are stated with it
 --     or_else    the result where a test holds, else a refusal
 use Rattle.std.specs.Prelude.{Bool, true, false, ℕ}
 

@@ -1,8 +1,8 @@
 // Why a call gives no result: document 01's conditions and those of document 02, and their numbers.
 #![tactic(auto)]
 
-ghost use Rattle.std.specs.Prelude.{◌≡◌};
-ghost use Rattle.result.specs.Refusal.{number_of};
+ghost use Rattle.std.specs.Prelude.{◌≡◌, Some};
+ghost use Rattle.result.specs.Refusal.{number_of, refused_text};
 
 use std::error::Error;
 use std::fmt;
@@ -82,6 +82,8 @@ impl From<Refusal> for u64 {
 }
 
 impl fmt::Display for Refusal {
+    ghost output = { λ r. Some (refused_text r) };
+
     fn fmt<W: fmt::Write>(&self, f: &mut fmt::Formatter<W>) -> fmt::Result {
         let number = u64::from(*self);
         write!(f, "refused {number}")

@@ -25,11 +25,11 @@ impl fmt::Display for Attempt {
 // 27, and nothing is changed.
 fn tried(rule: &Rule, bytes: &[u8; ROOM]) -> Attempt {
     let restored = rule.restore(bytes);
-    let as_due = match restored.answer {
+    let as_due = match restored.outcome {
         Ok(_) => {
-            let again = rule.save(&restored.monitor);
-            again.answer.is_ok()
-                && bytes.starts_with(again.written())
+            let mut again = [MARK; ROOM];
+            let saved = rule.save_to(&restored.monitor, &mut again);
+            saved.is_ok_and(|n| bytes.starts_with(&again[..n.min(ROOM)]))
                 && is_junk_from(&restored.monitor, rule.part.ncount)
         }
         Err(refusal) => refusal == Refusal::Unsaved && is_junk_from(&restored.monitor, 0),
@@ -37,7 +37,7 @@ fn tried(rule: &Rule, bytes: &[u8; ROOM]) -> Attempt {
     if !as_due {
         return Attempt::Other;
     }
-    if restored.answer.is_ok() {
+    if restored.outcome.is_ok() {
         Attempt::Read
     } else {
         Attempt::Unread
@@ -54,17 +54,56 @@ fn flipped(bytes: &[u8; ROOM], k: usize) -> [u8; ROOM] {
     out
 }
 
+// The first so many bits of saved bytes turned round one by one, a sign each.
+#[derive(Clone, Copy)]
+struct Flips<'a> {
+    rule: Rule<'a>,
+    bytes: [u8; ROOM],
+    bits: usize,
+}
+
+impl fmt::Display for Flips<'_> {
+    fn fmt<W: fmt::Write>(&self, f: &mut fmt::Formatter<W>) -> fmt::Result {
+        for k in 0..self.bits {
+            write!(f, "{}", tried(&self.rule, &flipped(&self.bytes, k)))?;
+        }
+        Ok(())
+    }
+}
+
 // Each bit of the bytes that were saved at place i turned round, if there are 1 to 4 and the place is below 4.
 pub(crate) fn show_flips(rt: &impl Print, rule: &Rule, i: usize, saved: &Saved) -> io::Result<()> {
     let n = saved.count();
     if 3 < i || n == 0 || 4 < n {
         return Ok(());
     }
-    print!(rt; "flip\t{}\t{i}\t", rule.number)?;
-    for k in 0..8 * n {
-        rt.print(tried(rule, &flipped(&saved.bytes, k)))?;
+    let flips = Flips {
+        rule: *rule,
+        bytes: saved.bytes,
+        bits: 8 * n,
+    };
+    println!(rt; "flip\t{}\t{i}\t{flips}", rule.number)
+}
+
+// The bytes that a rule of one byte is restored from, and a sign for each that is neither read nor refused as it is to be.
+#[derive(Clone, Copy)]
+struct Reads<'a> {
+    rule: Rule<'a>,
+}
+
+impl fmt::Display for Reads<'_> {
+    fn fmt<W: fmt::Write>(&self, f: &mut fmt::Formatter<W>) -> fmt::Result {
+        for v in 0..=255u8 {
+            let mut bytes = [MARK; ROOM];
+            bytes[0] = v;
+            match tried(&self.rule, &bytes) {
+                Attempt::Read => write!(f, "{v:02x}")?,
+                Attempt::Unread => {}
+                Attempt::Other => write!(f, "{}", Attempt::Other)?,
+            }
+        }
+        Ok(())
     }
-    println!(rt; "")
 }
 
 // Each byte that a rule of one byte is restored from.
@@ -72,15 +111,5 @@ pub(crate) fn show_reads(rt: &impl Print, rule: &Rule, need: usize) -> io::Resul
     if need != 1 {
         return Ok(());
     }
-    print!(rt; "reads\t{}\t", rule.number)?;
-    for v in 0..=255u8 {
-        let mut bytes = [MARK; ROOM];
-        bytes[0] = v;
-        match tried(rule, &bytes) {
-            Attempt::Read => print!(rt; "{v:02x}")?,
-            Attempt::Unread => {}
-            Attempt::Other => rt.print(Attempt::Other)?,
-        }
-    }
-    println!(rt; "")
+    println!(rt; "reads\t{}\t{}", rule.number, Reads { rule: *rule })
 }

@@ -34,11 +34,11 @@ fn save_refused(
 // Restoring is to be refused, and to leave the lists as they are.
 fn restore_refused(rt: &impl Print, rule: &Rule, refusal: Refusal) -> io::Result<()> {
     let restored = rule.restore(&[]);
-    if restored.answer != Err(refusal) {
-        show_misuse(rt, rule, 1, restored.answer)?;
+    if restored.outcome != Err(refusal) {
+        show_misuse(rt, rule, 1, restored.outcome)?;
     }
     if !is_junk_from(&restored.monitor, 0) {
-        show_misuse(rt, rule, 2, restored.answer)?;
+        show_misuse(rt, rule, 2, restored.outcome)?;
     }
     Ok(())
 }

@@ -20,10 +20,10 @@ fn switch_off(rt: &impl Print, rule: &Rule, i: usize, m: &mut ReferenceMonitor) 
     let kept = kept_or_lost(is_junk_from(&restored.monitor, rule.part.ncount));
     println!(rt;
         "back\t{r}\t{i}\t0\t{}\t{}\t{kept}",
-        told(restored.answer),
+        told(restored.outcome),
         Hex(again.written())
     )?;
-    if restored.answer.is_ok() {
+    if restored.outcome.is_ok() {
         *m = restored.monitor;
     }
     Ok(())

@@ -2,7 +2,7 @@
 ghost use Rattle.std.specs.Prelude.{◌≤◌};
 
 use in_place::ReferenceMonitor;
-use in_place::fresh::fresh;
+use in_place::fresh::{Started, fresh};
 use in_place::step::step;
 use monitor::table::{Part, Tables};
 use reader::steps::StepLine;
@@ -49,10 +49,10 @@ impl Rule<'_> {
     }
 
     // Restores a monitor that holds junk from bytes.
-    pub(crate) fn restore(&self, bytes: &[u8]) -> Restored {
+    pub(crate) fn restore(&self, bytes: &[u8]) -> Started {
         let mut monitor = junk();
-        let answer = restore(&mut monitor, &self.tables, self.part, bytes);
-        Restored { answer, monitor }
+        let outcome = restore(&mut monitor, &self.tables, self.part, bytes);
+        Started { monitor, outcome }
     }
 }
 
@@ -80,13 +80,6 @@ impl Saved {
     pub(crate) fn is_kept(&self) -> bool {
         self.bytes[self.count()..].iter().all(|b| *b == MARK)
     }
-}
-
-// The answer to restoring a monitor, and the monitor afterwards.
-#[derive(Clone, Copy)]
-pub(crate) struct Restored {
-    pub answer: Result<usize, Refusal>,
-    pub monitor: ReferenceMonitor,
 }
 
 // A monitor that no call leaves.

@@ -21,7 +21,7 @@ pub(crate) fn show_short(
         "short\t{}\t{need}\t{}\t{}\t{}",
         rule.number,
         told(saved),
-        told(restored.answer),
+        told(restored.outcome),
         kept_or_lost(kept)
     )
 }

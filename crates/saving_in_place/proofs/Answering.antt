@@ -1,4 +1,4 @@
--- What the by-value call returns, from the contract of the call on lists.
+-- What restoring leaves of a monitor struct, from the contract of the call on lists.
 use mathlib.Core.Bool.{Bool}
 use mathlib.Core.List.{List}
 use mathlib.Core.Path.{◌≡◌, ap, ◌∙◌}
@@ -15,7 +15,7 @@ use Rattle.in_place.specs.InPlace.{memory_of, struct_of, size_after}
 use Rattle.saving.specs.Restore.{RestoreAnswers, restore_call}
 use Rattle.saving_in_place.specs.SavedInPlace.{restore_in}
 
-pub restores : (t : LentTables) (m : ReferenceMonitor) (bytes : List ℕ) (r : Result ℕ Refusal) (size : ℕ) (forms bounds : List ℕ)
+restores : (t : LentTables) (m : ReferenceMonitor) (bytes : List ℕ) (r : Result ℕ Refusal) (size : ℕ) (forms bounds : List ℕ)
     (held : List Bool) (remaining : List ℕ) (failed : List Bool) (culprits : List ℤ)
     → RestoreAnswers (restore_call t m.forms m.bounds (memory_of m) bytes) r forms bounds (entries held remaining failed culprits) → size ≡ size_after r m.size
     → ◌≡◌ {A = Started} (record { monitor = struct_of (monitor_of size forms bounds (entries held remaining failed culprits)); outcome = r }) (restore_in t m bytes)
@@ -27,3 +27,11 @@ restores t m bytes r size forms bounds held remaining failed culprits d e =
       monitor = struct_of (monitor_of (f i) (d.forms_are i) (d.bounds_are i) (d.memory_is i));
       outcome = d.answers i;
     }
+
+pub restores_in : (t : LentTables) (m : ReferenceMonitor) (bytes : List ℕ) (r : Result ℕ Refusal) (size : ℕ) (forms bounds : List ℕ)
+    (held : List Bool) (remaining : List ℕ) (failed : List Bool) (culprits : List ℤ)
+    → RestoreAnswers (restore_call t m.forms m.bounds (memory_of m) bytes) r forms bounds (entries held remaining failed culprits) → size ≡ size_after r m.size
+    → (r ≡ (restore_in t m bytes).outcome) × (struct_of (monitor_of size forms bounds (entries held remaining failed culprits)) ≡ (restore_in t m bytes).monitor)
+restores_in t m bytes r size forms bounds held remaining failed culprits d e =
+    let p = restores t m bytes r size forms bounds held remaining failed culprits d e in
+    (ap (λ (x : Started). x.outcome) p, ap (λ (x : Started). x.monitor) p)

@@ -1,4 +1,4 @@
-// A monitor struct saved into lent bytes, and restored in place from them, by value and in place as document 01 has it of a step.
+// A monitor struct saved into lent bytes, and restored from them: in place, and by value over that.
 #![tactic(auto)]
 
 pub mod restore;

@@ -1,4 +1,4 @@
-// Restoring a monitor: by value, and in place.
+// Restoring a monitor: in place, which copies none, and by value.
 ghost use Rattle.std.specs.Prelude.{◌≡◌};
 ghost use Rattle.lent.specs.Lists.{tables_of};
 ghost use Rattle.saving_in_place.specs.SavedInPlace.{restore_in};
@@ -10,28 +10,7 @@ use monitor::table::{Part, Tables};
 use node_step::state::Memory;
 use result::Refusal;
 
-// Makes the monitor of the compiled rule that the tables hold, with the state that the bytes hold.
-pub fn restored(m: ReferenceMonitor, tables: &Tables, part: Part, bytes: &[u8]) -> Started
-    ensures { result
-        ≡ restore_in (tables_of tables.now part) m bytes.now }
-{
-    let mut monitor = m;
-    let mut memory = Memory {
-        held: &mut monitor.held,
-        remaining: &mut monitor.remaining,
-        failed: &mut monitor.failed,
-        culprits: &mut monitor.culprits,
-    };
-    let mut blank = Blank {
-        forms: &mut monitor.forms,
-        bounds: &mut monitor.bounds,
-    };
-    let outcome = saving::restore::restore(tables, part, &mut blank, &mut memory, bytes);
-    monitor.size = outcome.unwrap_or(m.size);
-    Started { monitor, outcome }
-}
-
-// The same on a lent monitor, which it changes.
+// Makes a lent monitor that of the compiled rule that the tables hold, with the state that the bytes hold.
 pub fn restore(
     m: &mut ReferenceMonitor,
     tables: &Tables,
@@ -42,7 +21,27 @@ pub fn restore(
         × (m.new
         ≡ (restore_in (tables_of tables.now part) m.old bytes.now).monitor) }
 {
-    let out = restored(*m, tables, part, bytes);
-    *m = out.monitor;
-    out.outcome
+    let mut memory = Memory {
+        held: &mut m.held,
+        remaining: &mut m.remaining,
+        failed: &mut m.failed,
+        culprits: &mut m.culprits,
+    };
+    let mut blank = Blank {
+        forms: &mut m.forms,
+        bounds: &mut m.bounds,
+    };
+    let outcome = saving::restore::restore(tables, part, &mut blank, &mut memory, bytes);
+    m.size = outcome.unwrap_or(m.size);
+    outcome
+}
+
+// The same by value.
+pub fn restored(m: ReferenceMonitor, tables: &Tables, part: Part, bytes: &[u8]) -> Started
+    ensures { result
+        ≡ restore_in (tables_of tables.now part) m bytes.now }
+{
+    let mut monitor = m;
+    let outcome = restore(&mut monitor, tables, part, bytes);
+    Started { monitor, outcome }
 }

@@ -1,4 +1,4 @@
-// Saving a monitor: by value, and in place.
+// Saving a monitor: in place, which copies none, and by value.
 ghost use Rattle.lent.specs.Lists.{tables_of};
 ghost use Rattle.in_place.specs.InPlace.{held_by};
 ghost use Rattle.saving.specs.Save.{SaveAnswers, save_call};
@@ -9,15 +9,15 @@ use monitor::table::{Part, Tables};
 use node_step::state::Entries;
 use result::Refusal;
 
-// Saves a monitor into lent bytes, over the tables that hold its rule.
-pub fn saved(
-    m: ReferenceMonitor,
+// Saves a lent monitor, which stays as it was, into lent bytes, over the tables that hold its rule.
+pub fn save(
+    m: &ReferenceMonitor,
     tables: &Tables,
     part: Part,
     bytes: &mut [u8],
 ) -> Result<usize, Refusal>
     ensures { SaveAnswers
-        (save_call (tables_of tables.now part) (held_by m) bytes.old)
+        (save_call (tables_of tables.now part) (held_by m.now) bytes.old)
         result bytes.new }
 {
     let frame = Frame {
@@ -34,16 +34,16 @@ pub fn saved(
     saving::save::save(tables, part, &frame, &entries, bytes)
 }
 
-// The same on a lent monitor, which stays as it was.
-pub fn save(
-    m: &ReferenceMonitor,
+// The same by value.
+pub fn saved(
+    m: ReferenceMonitor,
     tables: &Tables,
     part: Part,
     bytes: &mut [u8],
 ) -> Result<usize, Refusal>
     ensures { SaveAnswers
-        (save_call (tables_of tables.now part) (held_by m.now) bytes.old)
+        (save_call (tables_of tables.now part) (held_by m) bytes.old)
         result bytes.new }
 {
-    saved(*m, tables, part, bytes)
+    save(&m, tables, part, bytes)
 }

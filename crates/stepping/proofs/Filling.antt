@@ -1,9 +1,9 @@
 -- A fresh monitor: loops that store a run from the front, and the call.
-use mathlib.Core.Path.{◌≡◌, refl, sym, ap, ap₂, ◌∙◌}
+use mathlib.Core.Path.{◌≡◌, refl, sym, ap, ap₂, subst, ◌∙◌}
 use mathlib.Core.Bool.{Bool, true, false}
 use mathlib.Core.List.{List, [], ◌∷◌, ◌++◌}
 use mathlib.Core.Option.{Option, none, some}
-use Prim.Native.Nat.{ℕ, zero, suc, ◌+◌, ◌*◌}
+use Prim.Native.Nat.{ℕ, zero, suc, ◌+◌, ◌*◌, ◌<◌}
 use native.Mathlib.Omega.{arith}
 use native.Mathlib.Nat.{add-zero, add-suc, suc-add, zero-add}
 use native.Mathlib.Numerals.{add-one}
@@ -13,10 +13,13 @@ use Rattle.monitor.specs.Mon.{Mon}
 use Rattle.std.specs.Prelude.{Result, Ok, Err, None, Some}
 use Rattle.result.specs.declared.Refusal.{Refusal}
 use Rattle.result.specs.declared.Refusal.TheVariants.{Short}
-use Rattle.node_step.specs.Memory.{Memory}
+use Rattle.meaning.specs.Culprit.{minus_one}
+use Rattle.node_step.specs.declared.state.MonState.{MonState}
+use Rattle.node_step.specs.Memory.{Memory, Inside, initial_entry, put}
+use Rattle.node_step.proofs.Entries.{inside_put}
 use Rattle.terms.specs.Choice.{pick}
 use Rattle.lent.specs.Lent.{LentTables, lent_of, rule_mon, ruleless, refusal_to_make}
-use Rattle.stepping.specs.Fresh.{column, Makes, Making, refuse, make_mon, or_short, fresh_call, FreshAnswers}
+use Rattle.stepping.specs.Fresh.{column, cleared, Makes, Making, refuse, make_mon, or_short, fresh_call, FreshAnswers}
 use Rattle.lent.proofs.Refusals.{admitted}
 
 sets_append : {A : Type 0} (l : List A) (i : ℕ) (xs ys : List A) → sets (sets l i xs) (i + length xs) ys ≡ sets l i (xs ++ ys)
@@ -33,7 +36,7 @@ module _ {A : Type 0} (run : ℕ → List A) (l₀ l : List A) (k : ℕ) where
     is = ap (λ (x : List A). set x k v) d.is ∙ ap (λ (j : ℕ). set (sets l₀ 0 (run k)) j v) (sym (zero-add (length (run k)) ∙ z)) ∙ sets_append l₀ 0 (run k) (v ∷ []) ∙ ap (sets l₀ 0) (sym e);
   }
 
--- ---- elements of one value
+-- ---- cleared entries
 replicate_more : {A : Type 0} (k : ℕ) (v : A) → replicate (k + 1) v ≡ replicate k v ++ (v ∷ [])
 replicate_more k v = ap (λ (j : ℕ). replicate j v) (add-one k) ∙ go k
   where
@@ -41,12 +44,33 @@ replicate_more k v = ap (λ (j : ℕ). replicate j v) (add-one k) ∙ go k
     go zero = refl
     go (suc k) = ap (v ∷◌) (go k)
 
-module _ {A : Type 0} (v : A) (l₀ : List A) where
-  pub fill_start : Stored (λ (j : ℕ). replicate j v) l₀ l₀ 0
-  fill_start = record { is = refl }
+-- the first k entries of a memory are cleared
+pub record Clearing (mem₀ mem : Memory) (k : ℕ) : Type 0 where
+  pub held : Stored (λ (j : ℕ). replicate j false) mem₀.held mem.held k
+  pub remaining : Stored (λ (j : ℕ). replicate j 0) mem₀.remaining mem.remaining k
+  pub failed : Stored (λ (j : ℕ). replicate j false) mem₀.failed mem.failed k
+  pub culprits : Stored (λ (j : ℕ). replicate j minus_one) mem₀.culprits mem.culprits k
+  pub inside : (n : ℕ) → Inside mem₀ n → Inside mem n
 
-  pub fill_next : (l : List A) (k : ℕ) → Stored (λ (j : ℕ). replicate j v) l₀ l k → Stored (λ (j : ℕ). replicate j v) l₀ (set l k v) (k + 1)
-  fill_next l k d = stored_more (λ (j : ℕ). replicate j v) l₀ l k v (length-replicate k v) (replicate_more k v) d
+module _ (mem₀ : Memory) where
+  pub clear_start : Clearing mem₀ mem₀ 0
+  clear_start = record { held = record { is = refl }; remaining = record { is = refl }; failed = record { is = refl }; culprits = record { is = refl }; inside = λ n d. d }
+
+  module _ (mem : Memory) (k : ℕ) (d : Clearing mem₀ mem k) where
+    pub clear_inside : (n : ℕ) → Inside mem₀ n → k < n → Inside mem (k + 1)
+    clear_inside n i h =
+        let x = d.inside n i in
+        record { held = omega (arith, x.held); remaining = omega (arith, x.remaining); failed = omega (arith, x.failed); culprits = omega (arith, x.culprits) }
+
+    pub clear_next : (e : MonState) (mem' : Memory) → e ≡ initial_entry → mem' ≡ put mem k e → Clearing mem₀ mem' (k + 1)
+    clear_next e mem' p q = subst (λ (x : Memory). Clearing mem₀ x (k + 1)) (sym (q ∙ ap (put mem k) p))
+        record { held = more d.held; remaining = more d.remaining; failed = more d.failed; culprits = more d.culprits; inside = λ n i. inside_put mem k initial_entry n (d.inside n i) }
+      where
+        more : {A : Type 0} {v : A} {l₀ l : List A} → Stored (λ (j : ℕ). replicate j v) l₀ l k → Stored (λ (j : ℕ). replicate j v) l₀ (set l k v) (k + 1)
+        more {v = v} {l₀ = l₀} {l = l} x = stored_more (λ (j : ℕ). replicate j v) l₀ l k v (length-replicate k v) (replicate_more k v) x
+
+    pub clear_all : mem ≡ cleared mem₀ k
+    clear_all = λ i. record { held = d.held.is i; remaining = d.remaining.is i; failed = d.failed.is i; culprits = d.culprits.is i }
 
 -- ---- a column
 column_suc : (nodes : List ℕ) (col i k : ℕ) → column nodes col i (suc k) ≡ column nodes col i k ++ (get_or nodes (7 * (i + k) + col) 0 ∷ [])

@@ -14,7 +14,7 @@ use Rattle.reader.proofs.Answers.{short, refused_inv}
 use Rattle.node_table.specs.Node.{ops_of, nums_of}
 use Rattle.node_table.specs.declared.FormulaNode.{FormulaNode}
 use Rattle.node_table.proofs.Filling.{same_table}
-use Rattle.table_read.specs.Filling.{RuleList, with_table}
+use Rattle.table_read.specs.RuleList.{RuleList, with_table}
 use Rattle.table_read.proofs.Reading.{short_reads}
 
 pub short_refused : (text : List ℕ) (l : RuleList) (table : List FormulaNode) (u : SlotTables) → length table < 1024 → Reads text (with_table l (ops_of table) (nums_of table)) u (Err short) (with_table l (ops_of table) (nums_of table)) u

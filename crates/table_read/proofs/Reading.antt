@@ -21,7 +21,8 @@ use Rattle.reader.proofs.Sounds.{Sound}
 use Rattle.book_laws.proofs.RuleLaws.{accepted_done, into_accepted}
 use Rattle.node_table.specs.Columns.{front}
 use Rattle.node_table.specs.declared.columns.Columns.{Columns}
-use Rattle.table_read.specs.Filling.{RuleList, with_table, FillsWith, FillsNone, Fills}
+use Rattle.table_read.specs.Filling.{FillsWith, FillsNone, Fills}
+use Rattle.table_read.specs.RuleList.{RuleList, with_table}
 
 -- a book that is read has no more nodes than there are places for
 pub few_nodes : (text : List ℕ) (t : BookTables) (u : SlotTables) (r : Result Read Refused) (t' : BookTables) (u' : SlotTables) (a : Read)

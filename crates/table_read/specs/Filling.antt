@@ -1,23 +1,13 @@
 -- What reading a book into columns gives for a formula table of so many nodes.
---     RuleList    the lists of a rule list; with two lists for a formula table they are the reader's tables
 --     Fills       for any formula table of so many nodes: the answer is that of reading into it, and the columns hold the nodes that then
 --                 stand in front, or every node stays
 use Rattle.std.specs.Prelude.{List, ◌≡◌, ℕ, ◌≤◌, length, Result, Ok, Err}
 use Rattle.node_table.specs.Columns.{front}
 use Rattle.reader.specs.Answer.{Reads}
-use Rattle.reader.specs.BookTables.{BookTables, SlotTables}
+use Rattle.reader.specs.BookTables.{SlotTables}
 use Rattle.book.specs.declared.check.Refused.{Refused}
+use Rattle.table_read.specs.RuleList.{RuleList, with_table}
 use Rattle.table_read.specs.declared.Filling.{Filling}
-
-pub record RuleList : Type 0 where
-  pub labels : List ℕ
-  pub lens : List ℕ
-  pub kinds : List ℕ
-  pub firsts : List ℕ
-  pub counts : List ℕ
-
-abbrev pub with_table : RuleList → List ℕ → List ℕ → BookTables
-with_table l ops nums = record { labels = l.labels; lens = l.lens; kinds = l.kinds; firsts = l.firsts; counts = l.counts; ops = ops; nums = nums }
 
 -- a book that was read
 pub record FillsWith (len : ℕ) (text : List ℕ) (l : RuleList) (u : SlotTables) (f : Filling) (l' : RuleList) (u' : SlotTables) : Type 0 where

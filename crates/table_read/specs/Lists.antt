@@ -2,7 +2,7 @@
 --     rules_in     the contents
 --     SameRules    the same lists are lent afterwards, of the same lengths
 use Rattle.terms.specs.Lent.{Same}
-use Rattle.table_read.specs.Filling.{RuleList}
+use Rattle.table_read.specs.RuleList.{RuleList}
 use Rattle.table_read.specs.declared.RuleTables.{RuleTables}
 
 abbrev pub rules_in : RuleTables → RuleList

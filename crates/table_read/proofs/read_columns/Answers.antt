@@ -4,7 +4,7 @@ use native.Mathlib.Omega.{arith}
 use borrow.Author.Rules.{rules}
 use Rattle.std.specs.Prelude.{Err}
 use Rattle.reader.proofs.Lent.{reads_as}
-use Rattle.table_read.specs.Filling.{with_table}
+use Rattle.table_read.specs.RuleList.{with_table}
 use Rattle.table_read.proofs.Reading.{fills_short, fills_read, few_nodes, fills_none}
 use Rattle.table_read.proofs.read_columns.Goals as goal
 

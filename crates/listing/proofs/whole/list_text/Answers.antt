@@ -6,4 +6,4 @@ pub returns-in-Err : goal.returns-in-Err
 returns-in-Err c = search (rules, refused_wrote)
 
 pub list_opened-requires : goal.list_opened-requires
-list_opened-requires c = search (rules, hands_read)
+list_opened-requires c = hands_read _ _ _ c.blank-book.ensures _ c.read_in.ensures _ c.in-Ok.is

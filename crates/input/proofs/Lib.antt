@@ -1,0 +1,2 @@
+-- What is known of one read.
+pub mod OneRead

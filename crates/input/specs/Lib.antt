@@ -1,0 +1,2 @@
+-- What one read gives.
+pub mod Turn
