@@ -1,5 +1,5 @@
 // Bytes that are read into a monitor that holds junk.
-use crate::rule::{MARK, ROOM, Rule, Saved, is_junk_from};
+use crate::rule::{MARK, ROOM, Rule, Saved, is_junk_from, junk};
 use result::Refusal;
 use std::{fmt, io};
 
@@ -24,20 +24,21 @@ impl fmt::Display for Attempt {
 // A monitor that is restored gives the bytes again when it is saved anew, and no entry past the rule's nodes is changed; one that is not is refused by
 // 27, and nothing is changed.
 fn tried(rule: &Rule, bytes: &[u8; ROOM]) -> Attempt {
-    let restored = rule.restore(bytes);
-    let as_due = match restored.outcome {
+    let mut monitor = junk();
+    let outcome = rule.restore_to(&mut monitor, bytes);
+    let as_due = match outcome {
         Ok(_) => {
             let mut again = [MARK; ROOM];
-            let saved = rule.save_to(&restored.monitor, &mut again);
+            let saved = rule.save_to(&monitor, &mut again);
             saved.is_ok_and(|n| bytes.starts_with(&again[..n.min(ROOM)]))
-                && is_junk_from(&restored.monitor, rule.part.ncount)
+                && is_junk_from(&monitor, rule.part.ncount)
         }
-        Err(refusal) => refusal == Refusal::Unsaved && is_junk_from(&restored.monitor, 0),
+        Err(refusal) => refusal == Refusal::Unsaved && is_junk_from(&monitor, 0),
     };
     if !as_due {
         return Attempt::Other;
     }
-    if restored.outcome.is_ok() {
+    if outcome.is_ok() {
         Attempt::Read
     } else {
         Attempt::Unread

@@ -48,10 +48,19 @@ impl Rule<'_> {
         Saved { answer, bytes }
     }
 
+    // Restores a lent monitor from bytes.
+    pub(crate) fn restore_to(
+        &self,
+        m: &mut ReferenceMonitor,
+        bytes: &[u8],
+    ) -> Result<usize, Refusal> {
+        restore(m, &self.tables, self.part, bytes)
+    }
+
     // Restores a monitor that holds junk from bytes.
     pub(crate) fn restore(&self, bytes: &[u8]) -> Started {
         let mut monitor = junk();
-        let outcome = restore(&mut monitor, &self.tables, self.part, bytes);
+        let outcome = self.restore_to(&mut monitor, bytes);
         Started { monitor, outcome }
     }
 }

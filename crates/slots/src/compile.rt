@@ -23,24 +23,13 @@ pub(crate) struct Rules {
 }
 
 impl Rules {
-    // The rules of a book, compiled.
-    pub(crate) fn compiled(book: Book) -> Rules
-        requires { book.read.rules ≤ book_rules }
-    {
-        let mut nodes = [0u64; BOOK_CELLS];
-        let mut ncounts = [0usize; BOOK_RULES];
-        let mut refusals = [0u64; BOOK_RULES];
-        for r in 0..book.read.rules {
-            match book.compile(r, &mut nodes) {
-                Ok(k) => ncounts[r] = k,
-                Err(refusal) => refusals[r] = u64::from(refusal),
+    // Compiles the rules of the book, in place: a struct that is answered is copied, 87 KB of it.
+    pub(crate) fn compile(&mut self) {
+        for r in 0..self.count() {
+            match self.book.compile(r, &mut self.nodes) {
+                Ok(k) => self.ncounts[r] = k,
+                Err(refusal) => self.refusals[r] = u64::from(refusal),
             }
-        }
-        Rules {
-            book,
-            nodes,
-            ncounts,
-            refusals,
         }
     }
 

@@ -18,6 +18,7 @@ use encoding::Opening;
 use input::{TEXT_ROOM, read_full};
 use opened::{Book, open_book};
 use std::io;
+use terms::limit::{BOOK_CELLS, BOOK_RULES};
 
 // The rules of an accepted book: compiled, laid out, shown, and compared.
 fn run_rules(rt: &impl Print, book: Book) -> io::Result<()>
@@ -29,7 +30,13 @@ fn run_rules(rt: &impl Print, book: Book) -> io::Result<()>
         widths: &widths,
         slots: book.read.slots,
     };
-    let mut rules = Rules::compiled(book);
+    let mut rules = Rules {
+        book,
+        nodes: [0; BOOK_CELLS],
+        ncounts: [0; BOOK_RULES],
+        refusals: [0; BOOK_RULES],
+    };
+    rules.compile();
     let laid = rules.lay_out(rules.count(), &opening);
     show_plan(rt, laid.plan)?;
     show_vars(rt, &laid, &opening)?;
