@@ -32,7 +32,7 @@ pub struct Book {
 }
 
 impl Book {
-    // A book in which nothing is read: tables of zeros.
+    // A book in which nothing is read: tables of zeros. Inlined, so that they are zeros in place.
     #[inline(always)]
     pub fn blank() -> Book
         ensures { result ≡ blank_book }
