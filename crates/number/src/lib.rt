@@ -29,8 +29,10 @@ fn value(s: &[u8], base: u64) -> Option<u64>
     ensures { result ≡ value_in base s.now }
 {
     let mut acc: u64 = 0;
-    for b in s {
-        let d = digit(*b);
+    let mut i: usize = 0;
+    // no `for`: what shows that a loop which stands still is refused (number/never_ends) is a loop with a step of its own
+    while i < s.len() {
+        let d = digit(s[i]);
         if base <= d {
             return None;
         }
@@ -38,6 +40,7 @@ fn value(s: &[u8], base: u64) -> Option<u64>
             return None;
         }
         acc = acc * base + d;
+        i += 1;
     }
     Some(acc)
 }
